@@ -1,0 +1,6 @@
+mod NameLaws
+mod ReaderLaws
+mod OpeningLaws
+mod HeaderLaws
+mod NumberLaws
+mod Examples

@@ -1,0 +1,47 @@
+-- The limits of a table and the codes of its items.
+use mathlib.Core.List.{[], _∷_}
+use mathlib.Core.Option.{Option}
+use Prim.Native.Nat.{ℕ}
+use lib.ListN.{getElem?}
+
+-- how many routines a table has at most
+abbrev pub most-routines : ℕ
+most-routines = 64
+
+-- how many parameters a routine has at most
+abbrev pub most-params : ℕ
+most-params = 7
+
+-- how many bytes the body section has at most
+abbrev pub most-bytes : ℕ
+most-bytes = 4096
+
+-- how many blocks are open at one time at most, the body not counted
+abbrev pub most-open : ℕ
+most-open = 16
+
+-- how many NEW stand in a routine at most
+abbrev pub most-news : ℕ
+most-news = 8
+
+-- how many FORK stand in a routine at most
+abbrev pub most-forks : ℕ
+most-forks = 8
+
+-- the kinds of item
+pub data Op : Type 0 where
+  END NEW LOCK FORK CHOICE OTHER CALL : Op
+
+-- the code of a kind of item
+abbrev pub code : Op → ℕ
+code END = 0x00
+code NEW = 0x01
+code LOCK = 0x02
+code FORK = 0x03
+code CHOICE = 0x04
+code OTHER = 0x05
+code CALL = 0x06
+
+-- the kind of item that has the byte as its code, if there is one
+abbrev pub opOf : ℕ → Option Op
+opOf b = getElem? (END ∷ NEW ∷ LOCK ∷ FORK ∷ CHOICE ∷ OTHER ∷ CALL ∷ []) b

@@ -1,0 +1,34 @@
+// The limits of a table and the codes of its items.
+
+// How many routines a table has at most.
+pub const MOST_ROUTINES: usize = 64;
+
+// How many parameters a routine has at most.
+pub const MOST_PARAMS: u8 = 7;
+
+// How many bytes the body section has at most.
+pub const MOST_BYTES: usize = 4096;
+
+// How many blocks are open at one time at most, the body not counted.
+pub const MOST_OPEN: u64 = 16;
+
+// How many NEW stand in a routine at most.
+pub const MOST_NEWS: u64 = 8;
+
+// How many FORK stand in a routine at most.
+pub const MOST_FORKS: u64 = 8;
+
+// The codes.
+pub const END: u8 = 0x00;
+
+pub const NEW: u8 = 0x01;
+
+pub const LOCK: u8 = 0x02;
+
+pub const FORK: u8 = 0x03;
+
+pub const CHOICE: u8 = 0x04;
+
+pub const OTHER: u8 = 0x05;
+
+pub const CALL: u8 = 0x06;

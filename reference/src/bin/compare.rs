@@ -1,0 +1,263 @@
+//! Compares an archive's C functions with the reference.
+//!
+//! `compare [SEED [COUNT]]` goes over the worked cases, a table for each rule, the
+//! boundary tables, some plain runs of bytes and COUNT random tables of SEED. It
+//! prints one summary line, or the first difference and exits with 1.
+//!
+//! Needs the feature `archive`; with the feature `analyse` the archive's analysis
+//! is compared too.
+
+use std::collections::BTreeMap;
+use std::env;
+use std::process::ExitCode;
+
+use reference::cases::{rules, worked};
+use reference::generate::{boundaries, random, Rng, KINDS};
+use reference::limits::CHECK_ROUTINE;
+use reference::{check_number, hex};
+
+const DEFAULT_SEED: u64 = 1;
+const DEFAULT_COUNT: u64 = 100_000;
+
+/// The functions of the archive.
+mod archive {
+    extern "C" {
+        fn vangpear_check(table: *const u8, len: usize) -> u32;
+        #[cfg(feature = "analyse")]
+        fn vangpear_analyse(
+            table: *const u8,
+            table_len: usize,
+            model: *mut u8,
+            model_len: usize,
+        ) -> u32;
+    }
+
+    pub fn check(table: &[u8]) -> u32 {
+        // SAFETY: pointer and length are those of one slice, lent for the call.
+        unsafe { vangpear_check(table.as_ptr(), table.len()) }
+    }
+
+    #[cfg(feature = "analyse")]
+    pub fn analyse(table: &[u8], model: &mut [u8]) -> u32 {
+        // SAFETY: pointers and lengths are those of two slices that do not
+        // overlap, lent for the call.
+        unsafe { vangpear_analyse(table.as_ptr(), table.len(), model.as_mut_ptr(), model.len()) }
+    }
+}
+
+/// What has been compared so far.
+#[derive(Default)]
+struct Tally {
+    accepted: u64,
+    /// How often each refusal was given.
+    refused: BTreeMap<u32, u64>,
+    #[cfg(feature = "analyse")]
+    analysis: analysis::Tally,
+}
+
+/// Compares one table, or says how the answers differ.
+fn compare(tally: &mut Tally, table: &[u8]) -> Result<(), String> {
+    let lent = table.to_vec();
+    let expected = check_number(table);
+    let given = archive::check(&lent);
+    if given != expected {
+        return Err(format!("check: archive {given}, reference {expected}"));
+    }
+    if lent != table {
+        return Err(format!("check: {given} in both, but the table was changed"));
+    }
+    if expected < CHECK_ROUTINE {
+        *tally.refused.entry(expected).or_default() += 1;
+    } else {
+        tally.accepted += 1;
+    }
+    #[cfg(feature = "analyse")]
+    analysis::compare(&mut tally.analysis, table, expected)?;
+    Ok(())
+}
+
+/// The analysis, over buffers of every length that matters.
+#[cfg(feature = "analyse")]
+mod analysis {
+    use super::archive;
+    use reference::analyse_number;
+    use reference::limits::{CHECK_ROUTINE, MAX_ROUTINES, RING_BASE, ROW_BYTES};
+
+    /// Bytes on both sides of a buffer, which must stay as they were.
+    const GUARD: usize = 128;
+
+    #[derive(Default)]
+    pub struct Tally {
+        pub buffers: u64,
+        pub clear: u64,
+        pub ring: u64,
+        pub refused: u64,
+    }
+
+    /// Bytes that tell their places apart, never 0.
+    fn filler(count: usize) -> Vec<u8> {
+        (0..count).map(|place| (place % 251) as u8 + 1).collect()
+    }
+
+    /// `checked` is the number that the check gave.
+    pub fn compare(tally: &mut Tally, table: &[u8], checked: u32) -> Result<(), String> {
+        let lengths = if checked < CHECK_ROUTINE {
+            vec![0, 1, ROW_BYTES, ROW_BYTES * MAX_ROUTINES]
+        } else {
+            let n = (checked / CHECK_ROUTINE) as usize;
+            let exact = ROW_BYTES * n;
+            vec![0, exact - 1, 64 * n, exact, exact + ROW_BYTES + 7]
+        };
+        for length in lengths {
+            let before = filler(length + 2 * GUARD);
+            // The reference gets the buffer alone, so its guards cannot change.
+            let mut expected_bytes = before.clone();
+            let expected = analyse_number(table, &mut expected_bytes[GUARD..GUARD + length]);
+            let mut given_bytes = before.clone();
+            let lent = table.to_vec();
+            let given = archive::analyse(&lent, &mut given_bytes[GUARD..GUARD + length]);
+
+            let said = format!("analyse with a buffer of {length}: ");
+            if given != expected {
+                return Err(format!("{said}archive {given}, reference {expected}"));
+            }
+            if lent != table {
+                return Err(format!("{said}{given} in both, but the table was changed"));
+            }
+            let refused = expected != 0 && expected < RING_BASE;
+            if refused && expected_bytes != before {
+                return Err(format!("{said}the reference changed a byte and refused"));
+            }
+            let differing = (0..before.len()).find(|&at| given_bytes[at] != expected_bytes[at]);
+            if let Some(at) = differing {
+                return Err(format!(
+                    "{said}{given} in both, but byte {} of the buffer is {} in the archive's, {} in the reference's",
+                    at as i64 - GUARD as i64, given_bytes[at], expected_bytes[at]
+                ));
+            }
+            tally.buffers += 1;
+            match expected {
+                0 => tally.clear += 1,
+                RING_BASE.. => tally.ring += 1,
+                _ => tally.refused += 1,
+            }
+        }
+        Ok(())
+    }
+}
+
+/// Runs of bytes without a plan: none, each single byte, and 2^16 of them.
+fn plain(seed: u64) -> Vec<Vec<u8>> {
+    let mut all = vec![vec![]];
+    all.extend((0..=255).map(|byte| vec![byte]));
+    let mut rng = Rng::new(seed);
+    let long = rng.bytes(1 << 16);
+    // The same bytes behind heads that get further.
+    for head in [
+        &[][..],
+        &[1],
+        &[64],
+        &[1, 0],
+        &[1, 0, 0, 16],
+        &[1, 0, 255, 255],
+    ] {
+        let mut table = head.to_vec();
+        table.extend(&long[head.len()..]);
+        all.push(table);
+    }
+    all.push(vec![0; 1 << 16]);
+    all.push(vec![1; 1 << 16]);
+    all.push(vec![255; 1 << 16]);
+    all
+}
+
+/// Compares everything; the summary, or the first difference.
+fn run(seed: u64, count: u64) -> Result<String, String> {
+    let mut tally = Tally::default();
+    let mut one = |what: String, table: &[u8]| {
+        compare(&mut tally, table)
+            .map_err(|how| format!("difference at {what}\n{how}\n{}", hex::text(table)))
+    };
+
+    let worked = worked();
+    for case in &worked {
+        one(format!("worked case {}", case.name), &case.table)?;
+    }
+    let rules = rules();
+    for case in &rules {
+        one(format!("rule: {}", case.name), &case.table)?;
+    }
+    let boundaries = boundaries();
+    for boundary in &boundaries {
+        one(
+            format!("boundary table: {}", boundary.what),
+            &boundary.table,
+        )?;
+    }
+    let plain = plain(seed);
+    for (index, table) in plain.iter().enumerate() {
+        one(format!("plain table {index}"), table)?;
+    }
+    let mut kinds = BTreeMap::new();
+    for index in 0..count {
+        let (kind, table) = random(seed, index);
+        one(
+            format!("random table {index} of seed {seed}, {kind:?}"),
+            &table,
+        )?;
+        *kinds.entry(kind).or_insert(0) += 1;
+    }
+
+    let kinds: Vec<String> = KINDS
+        .iter()
+        .map(|(kind, word)| format!("{} {word}", kinds.get(kind).unwrap_or(&0)))
+        .collect();
+    let refused: Vec<String> = tally
+        .refused
+        .iter()
+        .map(|(number, times)| format!("{number}: {times}"))
+        .collect();
+    #[allow(unused_mut)]
+    let mut summary = format!(
+        "no difference, seed {seed}: {} worked, {} rule, {} boundary, {} plain, {count} random ({}); accepted {}; refused {}",
+        worked.len(),
+        rules.len(),
+        boundaries.len(),
+        plain.len(),
+        kinds.join(", "),
+        tally.accepted,
+        refused.join(", "),
+    );
+    #[cfg(feature = "analyse")]
+    {
+        let analysis = &tally.analysis;
+        summary += &format!(
+            "; analysed with {} buffers: clear {}, ring {}, refused {}",
+            analysis.buffers, analysis.clear, analysis.ring, analysis.refused
+        );
+    }
+    Ok(summary)
+}
+
+fn main() -> ExitCode {
+    let arguments: Result<Vec<u64>, _> = env::args().skip(1).map(|word| word.parse()).collect();
+    let (seed, count) = match arguments.as_deref() {
+        Ok([]) => (DEFAULT_SEED, DEFAULT_COUNT),
+        Ok([seed]) => (*seed, DEFAULT_COUNT),
+        Ok([seed, count]) => (*seed, *count),
+        _ => {
+            eprintln!("usage: compare [SEED [COUNT]]");
+            return ExitCode::from(2);
+        }
+    };
+    match run(seed, count) {
+        Ok(summary) => {
+            println!("{summary}");
+            ExitCode::SUCCESS
+        }
+        Err(difference) => {
+            println!("{difference}");
+            ExitCode::FAILURE
+        }
+    }
+}

@@ -1,0 +1,1126 @@
+//! Tables to try: boundary tables with their outcome, and seeded random ones.
+
+use crate::limits::{code, refusal, MAX_FORK, MAX_NEW, MAX_OPEN};
+use crate::limits::{MAX_PARAMETERS, MAX_ROUTINES, MAX_SECTION};
+
+/// A small generator of numbers (splitmix64): one seed, one sequence.
+pub struct Rng(u64);
+
+impl Rng {
+    pub fn new(seed: u64) -> Rng {
+        Rng(seed)
+    }
+
+    /// A generator for table number `index` of a seed.
+    pub fn indexed(seed: u64, index: u64) -> Rng {
+        let mut rng = Rng(seed);
+        let start = rng.draw();
+        Rng(start ^ index.wrapping_mul(0xD1B5_4A32_D192_ED03))
+    }
+
+    pub fn draw(&mut self) -> u64 {
+        self.0 = self.0.wrapping_add(0x9E37_79B9_7F4A_7C15);
+        let mut z = self.0;
+        z = (z ^ (z >> 30)).wrapping_mul(0xBF58_476D_1CE4_E5B9);
+        z = (z ^ (z >> 27)).wrapping_mul(0x94D0_49BB_1331_11EB);
+        z ^ (z >> 31)
+    }
+
+    /// A number below `bound`, which is not 0.
+    pub fn below(&mut self, bound: usize) -> usize {
+        (self.draw() % bound as u64) as usize
+    }
+
+    /// A number from `low` to `high`, both included.
+    pub fn between(&mut self, low: usize, high: usize) -> usize {
+        low + self.below(high - low + 1)
+    }
+
+    /// True `percent` times in a hundred.
+    pub fn chance(&mut self, percent: usize) -> bool {
+        self.below(100) < percent
+    }
+
+    pub fn byte(&mut self) -> u8 {
+        self.below(256) as u8
+    }
+
+    pub fn bytes(&mut self, count: usize) -> Vec<u8> {
+        (0..count).map(|_| self.byte()).collect()
+    }
+}
+
+/// A table's bytes from its parameter counts and its body section.
+pub fn assemble(parameters: &[u8], section: &[u8]) -> Vec<u8> {
+    let mut table = vec![parameters.len() as u8];
+    table.extend(parameters);
+    table.extend((section.len() as u16).to_le_bytes());
+    table.extend(section);
+    table
+}
+
+/// The kinds of random tables.
+#[derive(Clone, Copy, Debug, PartialEq, Eq, PartialOrd, Ord)]
+pub enum Kind {
+    /// Few names, much aliasing, recursion, forks in called routines.
+    Small,
+    /// Blocks nested up to the limit.
+    Deep,
+    /// Many names and forks in a routine.
+    Wide,
+    /// Many threads that each nest two or three locks: long ways to compose.
+    Tangle,
+    /// A valid table with bytes changed, cut, put in or added.
+    Damaged,
+    /// Arbitrary bytes, alone or behind a sound head.
+    Arbitrary,
+    /// As many body bytes as a table can have, or nearly so.
+    Full,
+}
+
+pub const KINDS: [(Kind, &str); 7] = [
+    (Kind::Small, "small"),
+    (Kind::Deep, "deep"),
+    (Kind::Wide, "wide"),
+    (Kind::Tangle, "tangle"),
+    (Kind::Damaged, "damaged"),
+    (Kind::Arbitrary, "arbitrary"),
+    (Kind::Full, "full"),
+];
+
+/// Table number `index` of a seed, with its kind.
+pub fn random(seed: u64, index: u64) -> (Kind, Vec<u8>) {
+    let mut rng = Rng::indexed(seed, index);
+    let kind = match rng.below(100) {
+        0..=34 => Kind::Small,
+        35..=43 => Kind::Deep,
+        44..=49 => Kind::Wide,
+        50..=57 => Kind::Tangle,
+        58..=84 => Kind::Damaged,
+        85..=98 => Kind::Arbitrary,
+        _ => Kind::Full,
+    };
+    let table = of_kind(&mut rng, kind);
+    (kind, table)
+}
+
+/// A random table of one kind.
+pub fn of_kind(rng: &mut Rng, kind: Kind) -> Vec<u8> {
+    match kind {
+        Kind::Small => small(rng),
+        Kind::Deep => deep(rng),
+        Kind::Wide => wide(rng),
+        Kind::Tangle => tangle(rng),
+        Kind::Damaged => damaged(rng),
+        Kind::Arbitrary => arbitrary(rng),
+        Kind::Full => full(rng),
+    }
+}
+
+/// How likely each item is in a random body, and how far the body may go.
+struct Style {
+    new: usize,
+    lock: usize,
+    fork: usize,
+    choice: usize,
+    call: usize,
+    /// In a hundred: how often a block is ended before its room is used up.
+    stop: usize,
+    /// Whether a body goes on until its room is used up.
+    fill: bool,
+    /// NEW items at the head of routine 0, which has no parameters.
+    head: usize,
+    max_new: u8,
+    max_fork: u8,
+    max_open: usize,
+}
+
+/// Writes one valid random body.
+struct Writer<'a> {
+    rng: &'a mut Rng,
+    style: &'a Style,
+    counts: &'a [u8],
+    parameters: u8,
+    scope: Vec<u8>,
+    news: u8,
+    forks: u8,
+    /// Bytes that may still be written, closing bytes already set aside.
+    room: usize,
+    out: Vec<u8>,
+}
+
+/// A valid body of at most `room` bytes (at least 1) for routine `routine`.
+fn body(rng: &mut Rng, style: &Style, counts: &[u8], routine: usize, room: usize) -> Vec<u8> {
+    let parameters = counts[routine];
+    let mut writer = Writer {
+        rng,
+        style,
+        counts,
+        parameters,
+        scope: (1..=parameters).collect(),
+        news: 0,
+        forks: 0,
+        room: room - 1,
+        out: Vec::new(),
+    };
+    if routine == 0 {
+        for _ in 0..style.head {
+            writer.new_item();
+        }
+    }
+    writer.items(0);
+    writer.out.push(code::END);
+    writer.out
+}
+
+impl Writer<'_> {
+    /// Items until the room or the wish for more is used up.
+    fn items(&mut self, depth: usize) {
+        let in_scope = self.scope.len();
+        let fill = self.style.fill && depth == 0;
+        // One block in ten is left empty.
+        let mut go_on = fill || !self.rng.chance(10);
+        while self.room > 0 && go_on {
+            self.item(depth);
+            go_on = fill || !self.rng.chance(self.style.stop);
+        }
+        // What was made in this block goes out of scope with it.
+        self.scope.truncate(in_scope);
+    }
+
+    /// One item, or none where the one drawn cannot stand here.
+    fn item(&mut self, depth: usize) {
+        let style = self.style;
+        let may_open = depth < style.max_open;
+        let all = style.new + style.lock + style.fork + style.choice + style.call;
+        let mut drawn = self.rng.below(all);
+        let mut falls_to = |weight: usize| {
+            let here = drawn < weight;
+            drawn = drawn.wrapping_sub(weight);
+            here
+        };
+        if falls_to(style.new) {
+            self.new_item();
+        } else if falls_to(style.lock) {
+            if may_open && self.take(3, !self.scope.is_empty()) {
+                let name = self.name();
+                self.out.extend([code::LOCK, name]);
+                self.items(depth + 1);
+                self.out.push(code::END);
+            }
+        } else if falls_to(style.fork) {
+            if may_open && self.take(2, self.forks < style.max_fork) {
+                self.forks += 1;
+                self.out.push(code::FORK);
+                self.items(depth + 1);
+                self.out.push(code::END);
+            }
+        } else if falls_to(style.choice) {
+            if may_open && self.take(3, true) {
+                self.out.push(code::CHOICE);
+                self.items(depth + 1);
+                self.out.push(code::OTHER);
+                self.items(depth + 1);
+                self.out.push(code::END);
+            }
+        } else {
+            // Routines with parameters are drawn more often.
+            let mut routine = self.rng.below(self.counts.len());
+            if self.counts[routine] == 0 && self.rng.chance(80) {
+                routine = self.rng.below(self.counts.len());
+            }
+            let names = self.counts[routine] as usize;
+            if self.take(2 + names, names == 0 || !self.scope.is_empty()) {
+                self.out.extend([code::CALL, routine as u8]);
+                for _ in 0..names {
+                    let name = self.name();
+                    self.out.push(name);
+                }
+            }
+        }
+    }
+
+    fn new_item(&mut self) {
+        if self.take(1, self.news < self.style.max_new) {
+            self.news += 1;
+            self.scope.push(self.parameters + self.news);
+            self.out.push(code::NEW);
+        }
+    }
+
+    /// Sets bytes aside for an item that may stand here; without success, and
+    /// so that writing comes to an end, one byte of room is given up.
+    fn take(&mut self, bytes: usize, allowed: bool) -> bool {
+        let taken = allowed && self.room >= bytes;
+        self.room = self.room.saturating_sub(if taken { bytes } else { 1 });
+        taken
+    }
+
+    fn name(&mut self) -> u8 {
+        self.scope[self.rng.below(self.scope.len())]
+    }
+}
+
+/// A table of valid bodies, with the room given for each.
+fn valid(rng: &mut Rng, style: &Style, counts: &[u8], rooms: &[usize]) -> Vec<u8> {
+    let mut section = Vec::new();
+    for (routine, &room) in rooms.iter().enumerate() {
+        section.extend(body(rng, style, counts, routine, room));
+    }
+    assemble(counts, &section)
+}
+
+/// Parameter counts for `routines` routines, none for routine 0.
+fn counts(rng: &mut Rng, routines: usize, most: usize) -> Vec<u8> {
+    let mut counts = vec![0];
+    for _ in 1..routines {
+        let least = if rng.chance(85) { most.min(1) } else { 0 };
+        counts.push(rng.between(least, most) as u8);
+    }
+    counts
+}
+
+fn small(rng: &mut Rng) -> Vec<u8> {
+    let style = Style {
+        new: 1,
+        lock: rng.between(6, 16),
+        fork: rng.between(1, 6),
+        choice: rng.between(0, 2),
+        call: rng.between(0, 8),
+        stop: rng.between(20, 50),
+        fill: rng.chance(80),
+        head: rng.between(2, 4),
+        max_new: rng.between(2, 4) as u8,
+        max_fork: rng.between(1, 4) as u8,
+        max_open: rng.between(3, 6),
+    };
+    let routines = rng.between(1, 4);
+    let most = rng.between(2, 3);
+    let counts = counts(rng, routines, most);
+    let rooms: Vec<usize> = counts.iter().map(|_| rng.between(12, 64)).collect();
+    valid(rng, &style, &counts, &rooms)
+}
+
+fn deep(rng: &mut Rng) -> Vec<u8> {
+    let style = Style {
+        new: 1,
+        lock: rng.between(4, 12),
+        fork: rng.between(0, 4),
+        choice: rng.between(0, 6),
+        call: rng.between(0, 2),
+        stop: rng.between(0, 12),
+        fill: rng.chance(50),
+        head: rng.between(1, 3),
+        max_new: MAX_NEW,
+        max_fork: MAX_FORK,
+        max_open: MAX_OPEN,
+    };
+    let routines = rng.between(1, 3);
+    let counts = counts(rng, routines, 3);
+    let rooms: Vec<usize> = counts.iter().map(|_| rng.between(20, 120)).collect();
+    valid(rng, &style, &counts, &rooms)
+}
+
+fn wide(rng: &mut Rng) -> Vec<u8> {
+    let style = Style {
+        new: 3,
+        lock: rng.between(4, 12),
+        fork: rng.between(1, 4),
+        choice: rng.between(0, 3),
+        call: rng.between(1, 4),
+        stop: rng.between(2, 15),
+        fill: rng.chance(50),
+        head: rng.between(0, 8),
+        max_new: MAX_NEW,
+        max_fork: MAX_FORK,
+        max_open: rng.between(2, MAX_OPEN),
+    };
+    let routines = rng.between(1, 8);
+    let counts = counts(rng, routines, MAX_PARAMETERS as usize);
+    let rooms: Vec<usize> = counts.iter().map(|_| rng.between(20, 200)).collect();
+    valid(rng, &style, &counts, &rooms)
+}
+
+fn tangle(rng: &mut Rng) -> Vec<u8> {
+    // Routine 0 calls each of the others once, so all names meet.
+    let routines = rng.between(1, 3);
+    let most = rng.between(2, MAX_PARAMETERS as usize);
+    let counts = counts(rng, routines, most);
+    let mut section = Vec::new();
+    for (routine, &parameters) in counts.iter().enumerate() {
+        let news = rng.between(2, MAX_NEW as usize) as u8;
+        let names = (parameters + news) as usize;
+        section.extend(vec![code::NEW; news as usize]);
+        let mut forks = 0;
+        for _ in 0..rng.between(1, 12) {
+            let forked = forks < MAX_FORK && rng.chance(60);
+            if forked {
+                forks += 1;
+                section.push(code::FORK);
+            }
+            let nested = rng.between(2, 3);
+            for _ in 0..nested {
+                section.extend([code::LOCK, rng.between(1, names) as u8]);
+            }
+            section.extend(vec![code::END; nested + forked as usize]);
+        }
+        if routine == 0 {
+            for (other, &count) in counts.iter().enumerate().skip(1) {
+                section.extend([code::CALL, other as u8]);
+                section.extend((0..count).map(|_| rng.between(1, names) as u8));
+            }
+        }
+        section.push(code::END);
+    }
+    assemble(&counts, &section)
+}
+
+fn full(rng: &mut Rng) -> Vec<u8> {
+    let style = Style {
+        new: rng.between(1, 3),
+        lock: rng.between(4, 12),
+        fork: rng.between(0, 4),
+        choice: rng.between(0, 3),
+        call: rng.between(1, 8),
+        stop: rng.between(5, 30),
+        fill: true,
+        head: rng.between(0, 8),
+        max_new: MAX_NEW,
+        max_fork: MAX_FORK,
+        max_open: rng.between(2, MAX_OPEN),
+    };
+    let routines = if rng.chance(75) {
+        MAX_ROUTINES
+    } else {
+        rng.between(1, MAX_ROUTINES)
+    };
+    let most = rng.between(0, MAX_PARAMETERS as usize);
+    let counts = counts(rng, routines, most);
+    let mut section = Vec::new();
+    for routine in 0..routines {
+        // Shares alike of what is left, and one byte for each body to come.
+        let to_come = routines - routine - 1;
+        let left = MAX_SECTION - section.len() - to_come;
+        section.extend(body(rng, &style, &counts, routine, left / (to_come + 1)));
+    }
+    // Calls of routine 0 fill the last body up, as its last items.
+    section.pop();
+    while section.len() + 3 <= MAX_SECTION {
+        section.extend([code::CALL, 0]);
+    }
+    section.push(code::END);
+    assemble(&counts, &section)
+}
+
+/// Changes a valid table in one to three places.
+fn damaged(rng: &mut Rng) -> Vec<u8> {
+    let kind = [
+        Kind::Small,
+        Kind::Small,
+        Kind::Small,
+        Kind::Deep,
+        Kind::Wide,
+    ][rng.below(5)];
+    let mut table = of_kind(rng, kind);
+    for _ in 0..rng.between(1, 3) {
+        // The head is short, so it is chosen outright at times.
+        let head = (table.first().copied().unwrap_or(0) as usize + 3).min(table.len());
+        let place = if rng.chance(15) {
+            rng.below(head + 1)
+        } else {
+            rng.below(table.len() + 1)
+        };
+        // Most often a byte that means something.
+        let byte = if rng.chance(80) {
+            rng.below(10) as u8
+        } else {
+            rng.byte()
+        };
+        match rng.below(8) {
+            0..=3 if place < table.len() => table[place] = byte,
+            4 if place < table.len() => {
+                table.remove(place);
+            }
+            5 => table.insert(place, byte),
+            6 => table.truncate(place),
+            _ => {
+                let count = rng.between(1, 4);
+                table.extend(rng.bytes(count));
+            }
+        }
+    }
+    // Often the body count is made to fit again, so that the items are read.
+    if rng.chance(70) {
+        fit_count(&mut table);
+    }
+    table
+}
+
+/// Makes the body count say what follows it, where both of its bytes are there.
+fn fit_count(table: &mut [u8]) {
+    let at = 1 + table.first().copied().unwrap_or(0) as usize;
+    if table.len() >= at + 2 {
+        let count = (table.len() - at - 2) as u16;
+        table[at..at + 2].copy_from_slice(&count.to_le_bytes());
+    }
+}
+
+fn arbitrary(rng: &mut Rng) -> Vec<u8> {
+    match rng.below(4) {
+        // Any bytes at all.
+        0 => {
+            let count = rng.between(0, 300);
+            rng.bytes(count)
+        }
+        // Any bytes behind a likely routine count.
+        1 => {
+            let count = rng.between(0, 40);
+            let mut table = rng.bytes(count);
+            table.insert(0, rng.between(0, 4) as u8);
+            table
+        }
+        // A sound head, then small numbers.
+        _ => {
+            let routines = rng.between(1, 3);
+            let counts = counts(rng, routines, 2);
+            let length = rng.between(0, 40);
+            let section: Vec<u8> = (0..length)
+                .map(|_| {
+                    if rng.chance(30) {
+                        0
+                    } else {
+                        rng.below(8) as u8
+                    }
+                })
+                .collect();
+            assemble(&counts, &section)
+        }
+    }
+}
+
+/// A table on one side of a limit.
+pub struct Boundary {
+    pub what: &'static str,
+    pub table: Vec<u8>,
+    /// The refusal due, none where the table passes.
+    pub refusal: Option<u32>,
+}
+
+/// `times` copies of some bytes.
+fn repeated(bytes: &[u8], times: usize) -> Vec<u8> {
+    bytes.repeat(times)
+}
+
+/// The parts one after another.
+fn joined(parts: &[&[u8]]) -> Vec<u8> {
+    parts.concat()
+}
+
+/// Tables on both sides of every limit, and tables to which two refusals apply.
+pub fn boundaries() -> Vec<Boundary> {
+    use code::*;
+
+    let mut all = Vec::new();
+    let mut put = |what: &'static str, table: Vec<u8>, refusal: Option<u32>| {
+        all.push(Boundary {
+            what,
+            table,
+            refusal,
+        });
+    };
+    // A table of one routine.
+    let one = |section: &[u8]| assemble(&[0], section);
+    // A table of a routine 0 that does nothing, and a routine 1 with k parameters.
+    let two = |k: u8, section: &[u8]| assemble(&[0, k], &joined(&[&[END], section]));
+
+    // The head.
+    put("no byte", vec![], Some(refusal::EMPTY));
+    put("no routine", vec![0], Some(refusal::ROUTINE_COUNT));
+    put(
+        "no routine, with a section",
+        assemble(&[], &[END]),
+        Some(refusal::ROUTINE_COUNT),
+    );
+    put(
+        "64 routines",
+        assemble(&[0; 64], &repeated(&[END], 64)),
+        None,
+    );
+    put(
+        "65 routines",
+        assemble(&[0; 65], &repeated(&[END], 65)),
+        Some(refusal::ROUTINE_COUNT),
+    );
+    put(
+        "255 routines",
+        assemble(&[0; 255], &repeated(&[END], 255)),
+        Some(refusal::ROUTINE_COUNT),
+    );
+    put("the count alone", vec![1], Some(refusal::HEADER_CUT));
+    put("no body count", vec![2, 0, 0], Some(refusal::HEADER_CUT));
+    put(
+        "one byte of the body count, with a bad parameter count",
+        vec![2, 9, 9, 1],
+        Some(refusal::HEADER_CUT),
+    );
+    put(
+        "64 parameter counts, one byte of the body count",
+        joined(&[&[64], &[0; 64], &[0]]),
+        Some(refusal::HEADER_CUT),
+    );
+    put("7 parameters", two(7, &[END]), None);
+    put(
+        "8 parameters",
+        two(8, &[END]),
+        Some(refusal::PARAMETER_COUNT),
+    );
+    put(
+        "255 parameters and a body count too large",
+        vec![2, 0, 255, 1, 16],
+        Some(refusal::PARAMETER_COUNT),
+    );
+    put(
+        "a parameter of routine 0",
+        assemble(&[1], &[END]),
+        Some(refusal::PARAMETER_COUNT),
+    );
+    put(
+        "4,096 body bytes",
+        one(&joined(&[
+            &repeated(&[FORK, END], 8),
+            &repeated(&[CALL, 0], 2039),
+            &[NEW, END],
+        ])),
+        None,
+    );
+    put(
+        "4,097 body bytes",
+        one(&joined(&[&repeated(&[CALL, 0], 2048), &[END]])),
+        Some(refusal::SECTION_COUNT),
+    );
+    put(
+        "4,097 body bytes said, none there",
+        vec![1, 0, 1, 16],
+        Some(refusal::SECTION_COUNT),
+    );
+    put(
+        "65,535 body bytes said",
+        vec![1, 0, 255, 255],
+        Some(refusal::SECTION_COUNT),
+    );
+    put(
+        "4,096 body bytes said, 4,095 there",
+        joined(&[&[1, 0, 0, 16], &[END; 4095]]),
+        Some(refusal::SECTION_LENGTH),
+    );
+    put(
+        "4,096 body bytes said, 4,097 there",
+        joined(&[&[1, 0, 0, 16], &[END; 4097]]),
+        Some(refusal::SECTION_LENGTH),
+    );
+    put(
+        "a byte missing",
+        vec![1, 0, 1, 0],
+        Some(refusal::SECTION_LENGTH),
+    );
+    put(
+        "a byte too many",
+        vec![1, 0, 1, 0, 0, 0],
+        Some(refusal::SECTION_LENGTH),
+    );
+    put(
+        "the largest table",
+        assemble(
+            &joined(&[&[0], &[7; 63]]),
+            &joined(&[
+                &repeated(&[END], 63),
+                &repeated(&[LOCK, 7, END], 1344),
+                &[END],
+            ]),
+        ),
+        None,
+    );
+    put(
+        "the largest table and a byte",
+        joined(&[&[64], &[0; 64], &[0, 16], &[END; 4097]]),
+        Some(refusal::SECTION_LENGTH),
+    );
+
+    // Where a code is due.
+    put("an empty section", one(&[]), Some(refusal::NO_CODE));
+    put(
+        "a second body missing",
+        assemble(&[0, 0], &[END]),
+        Some(refusal::NO_CODE),
+    );
+    put("a body not closed", one(&[NEW]), Some(refusal::NO_CODE));
+    put(
+        "a lock block not closed",
+        two(1, &[LOCK, 1, END]),
+        Some(refusal::NO_CODE),
+    );
+    put(
+        "a first alternative not closed",
+        one(&[CHOICE]),
+        Some(refusal::NO_CODE),
+    );
+    put(
+        "a second alternative not closed",
+        one(&[CHOICE, OTHER, END]),
+        Some(refusal::NO_CODE),
+    );
+    put(
+        "64 routines, 63 bodies",
+        assemble(&[0; 64], &repeated(&[END], 63)),
+        Some(refusal::NO_CODE),
+    );
+    put("code 7", one(&[7, END]), Some(refusal::BAD_CODE));
+    put("code 255", one(&[255]), Some(refusal::BAD_CODE));
+    put(
+        "code 7 at depth 16",
+        two(1, &joined(&[&repeated(&[LOCK, 1], 16), &[7]])),
+        Some(refusal::BAD_CODE),
+    );
+
+    // OTHER and END.
+    put(
+        "a choice of two empty alternatives",
+        one(&[CHOICE, OTHER, END, END]),
+        None,
+    );
+    put(
+        "OTHER in a body",
+        one(&[OTHER, END]),
+        Some(refusal::MISPLACED),
+    );
+    put(
+        "OTHER in a lock block in a first alternative",
+        two(1, &[CHOICE, LOCK, 1, OTHER, END, END]),
+        Some(refusal::MISPLACED),
+    );
+    put(
+        "OTHER in a fork block",
+        one(&[FORK, OTHER, END, END]),
+        Some(refusal::MISPLACED),
+    );
+    put(
+        "OTHER twice",
+        one(&[CHOICE, OTHER, OTHER, END, END]),
+        Some(refusal::MISPLACED),
+    );
+    put(
+        "END in a first alternative",
+        one(&[CHOICE, END, END]),
+        Some(refusal::MISPLACED),
+    );
+
+    // Depth.
+    for (what, depth, refusal) in [
+        ("16 lock blocks", 16, None),
+        ("17 lock blocks", 17, Some(refusal::TOO_DEEP)),
+    ] {
+        put(
+            what,
+            two(
+                1,
+                &joined(&[&repeated(&[LOCK, 1], depth), &repeated(&[END], depth + 1)]),
+            ),
+            refusal,
+        );
+    }
+    for (what, depth, refusal) in [
+        ("16 choices in first alternatives", 16, None),
+        (
+            "17 choices in first alternatives",
+            17,
+            Some(refusal::TOO_DEEP),
+        ),
+    ] {
+        put(
+            what,
+            one(&joined(&[
+                &repeated(&[CHOICE], depth),
+                &repeated(&[OTHER, END], depth),
+                &[END],
+            ])),
+            refusal,
+        );
+    }
+    for (what, depth, refusal) in [
+        ("16 choices in second alternatives", 16, None),
+        (
+            "17 choices in second alternatives",
+            17,
+            Some(refusal::TOO_DEEP),
+        ),
+    ] {
+        put(
+            what,
+            one(&joined(&[
+                &repeated(&[CHOICE, OTHER], depth),
+                &repeated(&[END], depth + 1),
+            ])),
+            refusal,
+        );
+    }
+    put(
+        "16 lock blocks twice over, and once more in the next routine",
+        assemble(
+            &[0, 1, 1],
+            &joined(&[
+                &[END],
+                &repeated(&[LOCK, 1], 16),
+                &repeated(&[END], 16),
+                &repeated(&[LOCK, 1], 16),
+                &repeated(&[END], 17),
+                &repeated(&[LOCK, 1], 16),
+                &repeated(&[END], 17),
+            ]),
+        ),
+        None,
+    );
+    put(
+        "8 forks in 8 lock blocks",
+        two(
+            1,
+            &joined(&[&repeated(&[LOCK, 1, FORK], 8), &repeated(&[END], 17)]),
+        ),
+        None,
+    );
+    put(
+        "a ninth FORK that is a seventeenth block",
+        two(
+            1,
+            &joined(&[
+                &repeated(&[LOCK, 1, FORK], 8),
+                &[FORK],
+                &repeated(&[END], 18),
+            ]),
+        ),
+        Some(refusal::TOO_DEEP),
+    );
+    put(
+        "a seventeenth block with a bad name",
+        two(
+            1,
+            &joined(&[&repeated(&[LOCK, 1], 16), &[LOCK, 2], &repeated(&[END], 18)]),
+        ),
+        Some(refusal::TOO_DEEP),
+    );
+    put(
+        "a seventeenth block with no name byte",
+        two(1, &joined(&[&repeated(&[LOCK, 1], 16), &[LOCK]])),
+        Some(refusal::TOO_DEEP),
+    );
+    put(
+        "a sixteenth block with a bad name",
+        two(
+            1,
+            &joined(&[&repeated(&[LOCK, 1], 15), &[LOCK, 2], &repeated(&[END], 17)]),
+        ),
+        Some(refusal::BAD_NAME),
+    );
+    put(
+        "NEW and CALL at depth 16",
+        two(
+            1,
+            &joined(&[
+                &repeated(&[LOCK, 1], 16),
+                &[NEW, CALL, 1, 2],
+                &repeated(&[END], 17),
+            ]),
+        ),
+        None,
+    );
+
+    // NEW and FORK.
+    put("8 NEW", one(&joined(&[&[NEW; 8], &[END]])), None);
+    put(
+        "9 NEW",
+        one(&joined(&[&[NEW; 9], &[END]])),
+        Some(refusal::TOO_MANY),
+    );
+    put(
+        "8 NEW in each of two routines",
+        assemble(&[0, 0], &joined(&[&[NEW; 8], &[END], &[NEW; 8], &[END]])),
+        None,
+    );
+    put(
+        "9 NEW over two alternatives",
+        one(&joined(&[&[CHOICE], &[NEW; 8], &[OTHER, NEW, END, END]])),
+        Some(refusal::TOO_MANY),
+    );
+    put(
+        "8 FORK",
+        one(&joined(&[&repeated(&[FORK, END], 8), &[END]])),
+        None,
+    );
+    put(
+        "9 FORK",
+        one(&joined(&[&repeated(&[FORK, END], 9), &[END]])),
+        Some(refusal::TOO_MANY),
+    );
+    put(
+        "8 NEW and 8 FORK",
+        one(&joined(&[&repeated(&[NEW, FORK, END], 8), &[END]])),
+        None,
+    );
+    put(
+        "a ninth NEW at depth 16",
+        two(
+            1,
+            &joined(&[&repeated(&[LOCK, 1], 16), &[NEW; 9], &repeated(&[END], 17)]),
+        ),
+        Some(refusal::TOO_MANY),
+    );
+    put(
+        "a ninth FORK at depth 15",
+        two(
+            1,
+            &joined(&[
+                &repeated(&[FORK, END], 8),
+                &repeated(&[LOCK, 1], 15),
+                &[FORK],
+            ]),
+        ),
+        Some(refusal::TOO_MANY),
+    );
+
+    // The routine byte.
+    put(
+        "CALL without a routine byte",
+        one(&[CALL]),
+        Some(refusal::BAD_ROUTINE),
+    );
+    put(
+        "CALL of routine n",
+        one(&[CALL, 1, END]),
+        Some(refusal::BAD_ROUTINE),
+    );
+    put(
+        "CALL of routine 255",
+        one(&[CALL, 255, END]),
+        Some(refusal::BAD_ROUTINE),
+    );
+    put("CALL of routine 0", one(&[CALL, 0, END]), None);
+    put(
+        "CALL of routine 63 of 64",
+        assemble(&[0; 64], &joined(&[&[CALL, 63], &repeated(&[END], 64)])),
+        None,
+    );
+    put(
+        "CALL of routine 64 of 64",
+        assemble(&[0; 64], &joined(&[&[CALL, 64], &repeated(&[END], 64)])),
+        Some(refusal::BAD_ROUTINE),
+    );
+
+    // Names.
+    put(
+        "LOCK without a name byte",
+        one(&[LOCK]),
+        Some(refusal::BAD_NAME),
+    );
+    put(
+        "LOCK of name 0",
+        two(1, &[LOCK, 0, END, END]),
+        Some(refusal::BAD_NAME),
+    );
+    put("LOCK of name k", two(7, &[LOCK, 7, END, END]), None);
+    put(
+        "LOCK of name k + 1",
+        two(7, &[LOCK, 8, END, END]),
+        Some(refusal::BAD_NAME),
+    );
+    put(
+        "LOCK of name 255",
+        two(7, &[LOCK, 255, END, END]),
+        Some(refusal::BAD_NAME),
+    );
+    put(
+        "LOCK of name 15",
+        two(7, &joined(&[&[NEW; 8], &[LOCK, 15, END, END]])),
+        None,
+    );
+    put(
+        "LOCK of name 16",
+        two(7, &joined(&[&[NEW; 8], &[LOCK, 16, END, END]])),
+        Some(refusal::BAD_NAME),
+    );
+    put(
+        "a local before its NEW",
+        one(&[LOCK, 1, END, NEW, END]),
+        Some(refusal::BAD_NAME),
+    );
+    put(
+        "a local after the block that holds it",
+        one(&[FORK, NEW, LOCK, 1, END, END, LOCK, 1, END, END]),
+        Some(refusal::BAD_NAME),
+    );
+    put(
+        "a local of the first alternative in the second",
+        one(&[CHOICE, NEW, OTHER, LOCK, 1, END, END, END]),
+        Some(refusal::BAD_NAME),
+    );
+    put(
+        "a local of the second alternative after the choice",
+        one(&[CHOICE, OTHER, NEW, END, LOCK, 1, END, END]),
+        Some(refusal::BAD_NAME),
+    );
+    put(
+        "a local outside a fork, used in it",
+        one(&[NEW, FORK, LOCK, 1, END, END, END]),
+        None,
+    );
+    put(
+        "numbers of locals out of scope are not used again",
+        one(&[
+            CHOICE, NEW, OTHER, NEW, LOCK, 2, END, END, NEW, LOCK, 3, END, END,
+        ]),
+        None,
+    );
+    put(
+        "the number of a local out of scope",
+        one(&[CHOICE, NEW, OTHER, NEW, LOCK, 1, END, END, END]),
+        Some(refusal::BAD_NAME),
+    );
+    put(
+        "a local of the routine before",
+        assemble(&[0, 0], &[NEW, END, LOCK, 1, END, END]),
+        Some(refusal::BAD_NAME),
+    );
+    put(
+        "CALL with 7 names, one repeated",
+        assemble(&[0, 7], &[NEW, NEW, CALL, 1, 1, 2, 1, 2, 1, 1, 1, END, END]),
+        None,
+    );
+    put(
+        "CALL with a bad last name",
+        assemble(&[0, 7], &[NEW, NEW, CALL, 1, 1, 2, 1, 2, 1, 1, 3, END, END]),
+        Some(refusal::BAD_NAME),
+    );
+    put(
+        "CALL with its last name missing",
+        assemble(&[0, 7], &[NEW, NEW, CALL, 1, 1, 2, 1, 2, 1, 1]),
+        Some(refusal::BAD_NAME),
+    );
+    put(
+        "CALL with no name byte",
+        assemble(&[0, 1], &[NEW, CALL, 1]),
+        Some(refusal::BAD_NAME),
+    );
+
+    // After the last body.
+    put(
+        "a byte after the body",
+        one(&[END, END]),
+        Some(refusal::BYTES_LEFT),
+    );
+    put(
+        "an unknown code after the last body",
+        assemble(&[0, 0], &[END, END, 255]),
+        Some(refusal::BYTES_LEFT),
+    );
+    all
+}
+
+#[cfg(test)]
+mod tests {
+    use super::*;
+    use crate::{check, limits::READ_LIMIT};
+
+    #[test]
+    fn boundary_tables_come_out_as_said() {
+        for boundary in boundaries() {
+            assert_eq!(
+                check(&boundary.table).err(),
+                boundary.refusal,
+                "{}",
+                boundary.what
+            );
+        }
+    }
+
+    #[test]
+    fn boundary_tables_touch_every_refusal_of_the_check() {
+        let all = boundaries();
+        for number in refusal::EMPTY..=refusal::BYTES_LEFT {
+            assert!(all.iter().any(|boundary| boundary.refusal == Some(number)));
+        }
+    }
+
+    #[test]
+    fn a_seed_gives_the_same_tables_again() {
+        for index in 0..200 {
+            assert_eq!(random(7, index), random(7, index));
+        }
+        assert_ne!(random(7, 0), random(8, 0));
+    }
+
+    #[test]
+    fn undamaged_tables_are_valid() {
+        let mut rng = Rng::new(1);
+        for _ in 0..500 {
+            for kind in [Kind::Small, Kind::Deep, Kind::Wide, Kind::Tangle] {
+                let table = of_kind(&mut rng, kind);
+                assert!(check(&table).is_ok(), "{kind:?} {table:?}");
+            }
+        }
+    }
+
+    #[test]
+    fn full_tables_are_valid_and_full() {
+        let mut rng = Rng::new(1);
+        let mut largest = 0;
+        for _ in 0..200 {
+            let table = of_kind(&mut rng, Kind::Full);
+            let (routines, _) = check(&table).expect("valid");
+            assert!(table.len() - routines - 3 > MAX_SECTION - 3);
+            largest = largest.max(table.len());
+        }
+        assert!(largest < READ_LIMIT);
+    }
+
+    #[test]
+    fn random_tables_reach_every_depth_and_count() {
+        use crate::table::{read, Item};
+        let (mut open, mut news, mut forks) = (0, 0, 0);
+        for index in 0..2000 {
+            let Ok(table) = read(&random(1, index).1) else {
+                continue;
+            };
+            for routine in &table.routines {
+                let (mut depth, mut new, mut fork) = (0i32, 0, 0);
+                for item in &routine.items {
+                    match item {
+                        Item::Lock { .. } | Item::Choice => depth += 1,
+                        Item::Fork => {
+                            depth += 1;
+                            fork += 1;
+                        }
+                        Item::New => new += 1,
+                        Item::End => depth -= 1,
+                        Item::Other | Item::Call { .. } => {}
+                    }
+                    open = open.max(depth);
+                }
+                news = news.max(new);
+                forks = forks.max(fork);
+            }
+        }
+        assert_eq!((open, news, forks), (16, 8, 8));
+    }
+
+    #[test]
+    fn damaged_and_arbitrary_tables_meet_every_refusal_of_the_check() {
+        let mut met = [0; 15];
+        for index in 0..20_000 {
+            if let Err(number) = check(&random(1, index).1) {
+                met[number as usize] += 1;
+            }
+        }
+        // 5 needs a large count, which the body count's high byte gives.
+        for (number, count) in met.iter().enumerate().skip(1) {
+            assert!(*count > 0, "refusal {number} was not met");
+        }
+    }
+}

@@ -1,0 +1,71 @@
+//! A second analyser of handler tables, written from document 01 alone.
+//!
+//! It is kept plain, to be compared against, not to be fast:
+//! `table` reads and refuses, `model` works out pairs, rows and the verdict,
+//! `listing` is the program's text. `cases` and `generate` give tables to try.
+
+pub mod cases;
+pub mod generate;
+pub mod hex;
+pub mod limits;
+mod listing;
+pub mod model;
+pub mod table;
+
+use limits::{refusal, CHECK_ROUTINE, RING_BASE, RING_NAME, RING_ROUTINE, ROW_BYTES};
+pub use listing::listing;
+
+/// What the analysis says of a table.
+#[derive(Clone, Copy, Debug, PartialEq, Eq)]
+pub enum Answer {
+    /// No reached routine has a ring.
+    Clear,
+    /// The lowest reached routine with a ring, and its lowest ring name.
+    Ring { routine: usize, name: u8 },
+    /// The number of the refusal.
+    Refused(u32),
+}
+
+/// The counts of routines and items, or the refusal's number (1 to 14).
+pub fn check(table: &[u8]) -> Result<(usize, usize), u32> {
+    let table = table::read(table)?;
+    Ok((table.routines.len(), table.items()))
+}
+
+/// Writes the model into the head of `buffer` and gives the verdict.
+/// A refusal (1 to 15) leaves the whole buffer as it was.
+pub fn analyse(table: &[u8], buffer: &mut [u8]) -> Answer {
+    let table = match table::read(table) {
+        Ok(table) => table,
+        Err(number) => return Answer::Refused(number),
+    };
+    // 15: a row for each routine must fit.
+    let rows = table.routines.len();
+    if buffer.len() < ROW_BYTES * rows {
+        return Answer::Refused(refusal::SHORT_BUFFER);
+    }
+    let outcomes = model::least_model(&table);
+    for (outcome, bytes) in outcomes.iter().zip(buffer.chunks_mut(ROW_BYTES)) {
+        bytes.copy_from_slice(&model::row_bytes(outcome));
+    }
+    model::verdict(&table, &outcomes)
+}
+
+/// `check` as one number.
+pub fn check_number(table: &[u8]) -> u32 {
+    match check(table) {
+        Ok((routines, items)) => CHECK_ROUTINE * routines as u32 + items as u32,
+        Err(number) => number,
+    }
+}
+
+/// `analyse` as one number.
+pub fn analyse_number(table: &[u8], buffer: &mut [u8]) -> u32 {
+    match analyse(table, buffer) {
+        Answer::Clear => 0,
+        Answer::Ring { routine, name } => {
+            RING_BASE + RING_ROUTINE * routine as u32 + RING_NAME * name as u32
+        }
+        Answer::Refused(number) => number,
+    }
+}

@@ -1,0 +1,68 @@
+//! Every number that document 01 fixes, in one place.
+
+/// Most routines in a table.
+pub const MAX_ROUTINES: usize = 64;
+/// Most parameters of a routine.
+pub const MAX_PARAMETERS: u8 = 7;
+/// Most bytes in the body section.
+pub const MAX_SECTION: usize = 4_096;
+/// Most NEW items in a routine.
+pub const MAX_NEW: u8 = 8;
+/// Most FORK items in a routine.
+pub const MAX_FORK: u8 = 8;
+/// Most blocks open at one time, the body not counted.
+pub const MAX_OPEN: usize = 16;
+
+/// Bytes of one routine's row in the model.
+pub const ROW_BYTES: usize = 65;
+/// Cell (a, b) of a row is at ROW_SIDE × a + b.
+pub const ROW_SIDE: usize = 8;
+/// Offset in a row of the byte that says whether the body has a ring.
+pub const RING_BYTE: usize = 64;
+/// What each label adds to a cell.
+pub const CELL_OWN: u8 = 1;
+pub const CELL_UNKNOWN: u8 = 2;
+pub const CELL_SEVERAL: u8 = 4;
+
+/// The name of the lock held before the call.
+pub const OUTER_NAME: u8 = 0;
+
+/// Most bytes that the program reads: one more than the largest table.
+pub const READ_LIMIT: usize = 4_164;
+
+/// `check_number` of an accepted table: this × routines, plus items.
+pub const CHECK_ROUTINE: u32 = 65_536;
+/// `analyse_number` of a ring: base + this × routine + this × name.
+pub const RING_BASE: u32 = 65_536;
+pub const RING_ROUTINE: u32 = 1_024;
+pub const RING_NAME: u32 = 32;
+
+/// Item codes.
+pub mod code {
+    pub const END: u8 = 0;
+    pub const NEW: u8 = 1;
+    pub const LOCK: u8 = 2;
+    pub const FORK: u8 = 3;
+    pub const CHOICE: u8 = 4;
+    pub const OTHER: u8 = 5;
+    pub const CALL: u8 = 6;
+}
+
+/// Refusals, numbered in the order in which they are tried.
+pub mod refusal {
+    pub const EMPTY: u32 = 1;
+    pub const ROUTINE_COUNT: u32 = 2;
+    pub const HEADER_CUT: u32 = 3;
+    pub const PARAMETER_COUNT: u32 = 4;
+    pub const SECTION_COUNT: u32 = 5;
+    pub const SECTION_LENGTH: u32 = 6;
+    pub const NO_CODE: u32 = 7;
+    pub const BAD_CODE: u32 = 8;
+    pub const MISPLACED: u32 = 9;
+    pub const TOO_DEEP: u32 = 10;
+    pub const TOO_MANY: u32 = 11;
+    pub const BAD_ROUTINE: u32 = 12;
+    pub const BAD_NAME: u32 = 13;
+    pub const BYTES_LEFT: u32 = 14;
+    pub const SHORT_BUFFER: u32 = 15;
+}

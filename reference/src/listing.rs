@@ -1,0 +1,30 @@
+//! The program's text.
+
+use crate::limits::{MAX_ROUTINES, ROW_BYTES, ROW_SIDE};
+use crate::{analyse, check, Answer};
+
+/// The lines printed for a table, each ended by 0A.
+pub fn listing(table: &[u8]) -> Vec<u8> {
+    let mut model = [0; ROW_BYTES * MAX_ROUTINES];
+    let last = match analyse(table, &mut model) {
+        // A refused table prints this line alone.
+        Answer::Refused(number) => return format!("refused {number}\n").into_bytes(),
+        Answer::Clear => "clear\n".to_string(),
+        Answer::Ring { routine, name } => format!("ring {routine} {name}\n"),
+    };
+    let routines = check(table).map_or(0, |(routines, _)| routines);
+    let mut text = format!("routines {routines}\n");
+    // Nonzero cells by routine, then a, then b.
+    for r in 0..routines {
+        for a in 0..ROW_SIDE {
+            for b in 0..ROW_SIDE {
+                let value = model[ROW_BYTES * r + ROW_SIDE * a + b];
+                if value != 0 {
+                    text += &format!("pair {r} {a} {b} {value}\n");
+                }
+            }
+        }
+    }
+    text += &last;
+    text.into_bytes()
+}

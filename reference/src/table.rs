@@ -1,0 +1,223 @@
+//! Reading a table, with refusals 1 to 14 in document 01's order.
+
+use crate::limits::{code, refusal, MAX_FORK, MAX_NEW, MAX_OPEN};
+use crate::limits::{MAX_PARAMETERS, MAX_ROUTINES, MAX_SECTION};
+
+/// A table that has passed every check.
+#[derive(Clone, Debug, PartialEq, Eq)]
+pub struct Table {
+    pub routines: Vec<Routine>,
+}
+
+/// One routine: its parameter count, and its items up to and with its last END.
+#[derive(Clone, Debug, PartialEq, Eq)]
+pub struct Routine {
+    pub parameters: u8,
+    pub items: Vec<Item>,
+}
+
+/// One code with its operands.
+#[derive(Clone, Debug, PartialEq, Eq)]
+pub enum Item {
+    End,
+    New,
+    Lock { name: u8 },
+    Fork,
+    Choice,
+    Other,
+    Call { routine: usize, names: Vec<u8> },
+}
+
+/// An open block.
+#[derive(Clone, Copy, Debug, PartialEq, Eq)]
+pub enum Block {
+    /// The routine's body, which does not count towards the depth.
+    Body,
+    /// The lock of this name is held inside.
+    Lock(u8),
+    /// Run by the fork with this number, from 1 in written order.
+    Fork(u8),
+    /// The first alternative of a choice.
+    First,
+    /// The second alternative of a choice.
+    Second,
+}
+
+impl Table {
+    /// Items in all bodies, closing END and OTHER items with them.
+    pub fn items(&self) -> usize {
+        self.routines
+            .iter()
+            .map(|routine| routine.items.len())
+            .sum()
+    }
+}
+
+/// Reads a whole table, or gives the number of the first refusal.
+pub fn read(table: &[u8]) -> Result<Table, u32> {
+    // 1: empty.
+    if table.is_empty() {
+        return Err(refusal::EMPTY);
+    }
+    // 2: routine count.
+    let n = table[0] as usize;
+    if n == 0 || n > MAX_ROUTINES {
+        return Err(refusal::ROUTINE_COUNT);
+    }
+    // 3: n parameter counts and two count bytes must follow.
+    let section_start = 1 + n + 2;
+    if table.len() < section_start {
+        return Err(refusal::HEADER_CUT);
+    }
+    // 4: parameter counts.
+    let parameters = &table[1..1 + n];
+    if parameters.iter().any(|&k| k > MAX_PARAMETERS) || parameters[0] != 0 {
+        return Err(refusal::PARAMETER_COUNT);
+    }
+    // 5: body count, low byte first.
+    let count = table[1 + n] as usize + 256 * table[2 + n] as usize;
+    if count > MAX_SECTION {
+        return Err(refusal::SECTION_COUNT);
+    }
+    // 6: exactly that many bytes follow.
+    let section = &table[section_start..];
+    if section.len() != count {
+        return Err(refusal::SECTION_LENGTH);
+    }
+    // 7 to 13, item by item.
+    let mut reader = Reader { section, at: 0 };
+    let mut routines = Vec::new();
+    for &k in parameters {
+        routines.push(reader.routine(k, parameters)?);
+    }
+    // 14: nothing after the last body.
+    if reader.at < section.len() {
+        return Err(refusal::BYTES_LEFT);
+    }
+    Ok(Table { routines })
+}
+
+/// The body section and how far it has been read.
+struct Reader<'a> {
+    section: &'a [u8],
+    at: usize,
+}
+
+/// An open block with the locals made directly in it.
+struct Open {
+    block: Block,
+    locals: Vec<u8>,
+}
+
+impl Open {
+    fn new(block: Block) -> Open {
+        Open {
+            block,
+            locals: Vec::new(),
+        }
+    }
+}
+
+impl Reader<'_> {
+    /// The next byte, if there is one.
+    fn byte(&mut self) -> Option<u8> {
+        let byte = self.section.get(self.at).copied();
+        if byte.is_some() {
+            self.at += 1;
+        }
+        byte
+    }
+
+    /// A name byte that must be there and in scope.
+    fn name(&mut self, parameters: u8, open: &[Open]) -> Result<u8, u32> {
+        match self.byte() {
+            Some(name) if in_scope(name, parameters, open) => Ok(name),
+            _ => Err(refusal::BAD_NAME),
+        }
+    }
+
+    /// Reads one body, up to and with the END that closes it.
+    fn routine(&mut self, parameters: u8, counts: &[u8]) -> Result<Routine, u32> {
+        let mut items = Vec::new();
+        let mut open = vec![Open::new(Block::Body)];
+        let mut news = 0;
+        let mut forks = 0;
+        while let Some(innermost) = open.last_mut() {
+            // 7: a code is due.
+            let code = self.byte().ok_or(refusal::NO_CODE)?;
+            // 8: unknown code.
+            if code > code::CALL {
+                return Err(refusal::BAD_CODE);
+            }
+            // 9: a first alternative is ended by OTHER, and by nothing else.
+            let in_first = innermost.block == Block::First;
+            if (code == code::OTHER && !in_first) || (code == code::END && in_first) {
+                return Err(refusal::MISPLACED);
+            }
+            // 10: depth; OTHER closes one block before it opens one.
+            let opens = matches!(code, code::LOCK | code::FORK | code::CHOICE);
+            let depth = open.len() - 1;
+            if opens && depth == MAX_OPEN {
+                return Err(refusal::TOO_DEEP);
+            }
+            // 11: NEW and FORK of this routine.
+            if (code == code::NEW && news == MAX_NEW) || (code == code::FORK && forks == MAX_FORK) {
+                return Err(refusal::TOO_MANY);
+            }
+            items.push(match code {
+                code::END => {
+                    // The locals of the block go out of scope with it.
+                    open.pop();
+                    Item::End
+                }
+                code::NEW => {
+                    // Locals are numbered over the whole routine.
+                    news += 1;
+                    if let Some(innermost) = open.last_mut() {
+                        innermost.locals.push(parameters + news);
+                    }
+                    Item::New
+                }
+                code::LOCK => {
+                    // 13: the name.
+                    let name = self.name(parameters, &open)?;
+                    open.push(Open::new(Block::Lock(name)));
+                    Item::Lock { name }
+                }
+                code::FORK => {
+                    forks += 1;
+                    open.push(Open::new(Block::Fork(forks)));
+                    Item::Fork
+                }
+                code::CHOICE => {
+                    open.push(Open::new(Block::First));
+                    Item::Choice
+                }
+                code::OTHER => {
+                    open.pop();
+                    open.push(Open::new(Block::Second));
+                    Item::Other
+                }
+                _ => {
+                    // 12: the routine byte.
+                    let routine = match self.byte() {
+                        Some(r) if (r as usize) < counts.len() => r as usize,
+                        _ => return Err(refusal::BAD_ROUTINE),
+                    };
+                    // 13: one name for each of its parameters, in order.
+                    let mut names = Vec::new();
+                    for _ in 0..counts[routine] {
+                        names.push(self.name(parameters, &open)?);
+                    }
+                    Item::Call { routine, names }
+                }
+            });
+        }
+        Ok(Routine { parameters, items })
+    }
+}
+
+/// Parameters are always in scope, locals while their block is open, name 0 never.
+fn in_scope(name: u8, parameters: u8, open: &[Open]) -> bool {
+    (1..=parameters).contains(&name) || open.iter().any(|block| block.locals.contains(&name))
+}
