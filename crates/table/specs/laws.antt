@@ -1,5 +1,6 @@
 -- Laws of the definitions. No contract cites them: the checker reads them, nobody else has to.
 pub mod Cases
+pub mod Lists
 pub mod ScopeMask
 pub mod Fuel
 pub mod Readers

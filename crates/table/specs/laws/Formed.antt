@@ -9,24 +9,7 @@ use Rattle.table.specs.Program.{Code, end, new, lock, fork, choice, call
 use Rattle.table.specs.Program.{names, news, forks}
 use Rattle.table.specs.WellFormed.{In, NoDup, Scoped, Once, makes, starts, onces, WellFormed}
 use Rattle.table.specs.Encoding.{Numbered, Fits, WithinLimits}
-
-module _ {A : Type 0} where
-  In-split : (x : A) (a b : List A) → In x (a ++ b) → In x a ⊎ In x b
-  In-split x [] b i = inr i
-  In-split x (y ∷ a) b (inl e) = inl (inl e)
-  In-split x (y ∷ a) b (inr i) = step (In-split x a b i)
-    where
-      step : In x a ⊎ In x b → ((x ≡ y) ⊎ In x a) ⊎ In x b
-      step (inl j) = inl (inr j)
-      step (inr j) = inr j
-
-  NoDup-join : (a b : List A) → NoDup a → NoDup b → ((x : A) → In x a → In x b → ⊥) → NoDup (a ++ b)
-  NoDup-join [] b p q f = q
-  NoDup-join (y ∷ a) b p q f = (λ i. step (In-split y a b i), NoDup-join a b (p .1) q (λ x i j. f x (inr i) j))
-    where
-      step : In y a ⊎ In y b → ⊥
-      step (inl i) = p .0 i
-      step (inr j) = f y (inl refl) j
+use Rattle.table.specs.laws.Lists.{In-split, NoDup-join}
 
 -- a local above a and up to b, or a fork above p and up to q
 abbrev Between : ℕ → ℕ → ℕ → ℕ → Once → Type 0

@@ -1,0 +1,2 @@
+-- What the definitions mean, beside the functions.
+mod Readings

@@ -1,0 +1,11 @@
+-- What follows from the definitions, for the proofs to cite.
+pub mod Satisfies
+pub mod Least
+pub mod Closure
+pub mod Verdict
+pub mod Tests
+pub mod Lists
+pub mod Table
+pub mod Number
+pub mod Certificate
+pub mod Judge
