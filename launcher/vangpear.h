@@ -1,7 +1,9 @@
-/* Vangpear: whether a handler table is accepted. C11, usable from C++.
+/* Vangpear: whether a handler table is accepted, and whether its threads can wait for each other's locks.
+ * C11, usable from C++.
  *
- * Link with the archive that `rt staticlib table` writes, target/staticlib/libtable.a. The calls keep no state, take no
- * memory of their own, write nothing but what is said here, and are proved to end for every input. */
+ * Link with the archive that `rt staticlib analysis` writes, target/staticlib/libanalysis.a. The calls keep no state, take
+ * no memory of their own, use less than 64 KiB of stack, write nothing but what is said here, and are proved to end for
+ * every input. Two calls may run at the same time on different model buffers. */
 #ifndef VANGPEAR_H
 #define VANGPEAR_H
 
@@ -12,12 +14,27 @@
 extern "C" {
 #endif
 
+/* How many bytes of the model buffer each routine takes, and how many suffice for every table (64 routines). */
+#define VANGPEAR_ROW 65u
+#define VANGPEAR_MODEL (64u * VANGPEAR_ROW)
+
 /* What vangpear_check gives for an accepted table is VANGPEAR_ROUTINE * routines + items. */
 #define VANGPEAR_ROUTINE 65536u
+
+/* What vangpear_analyse gives for a ring is VANGPEAR_RING + 1024 * routine + 32 * name. */
+#define VANGPEAR_RING 65536u
+#define VANGPEAR_RING_ROUTINE(answer) (((answer) - VANGPEAR_RING) / 1024u)
+#define VANGPEAR_RING_NAME(answer) (((answer) - VANGPEAR_RING) % 1024u / 32u)
 
 /* Checks the `length` bytes at `table`, which may be of any number and content; `table` may be null only where `length`
  * is 0. Gives the refusal's number, 1 to 14, or VANGPEAR_ROUTINE * routines + items. Writes nothing. */
 uint32_t vangpear_check(const uint8_t *table, size_t length);
+
+/* Analyses the table as vangpear_check takes it. Gives 0 for clear, VANGPEAR_RING and more for a ring, or the refusal's
+ * number: 1 to 14, or 15 where the `size` bytes at `model` are fewer than VANGPEAR_ROW for each routine. A refusal leaves
+ * the buffer as it was; otherwise its first VANGPEAR_ROW * routines bytes are the rows of the model, and those after them
+ * are as they were. `table` and `model` must not overlap. */
+uint32_t vangpear_analyse(const uint8_t *table, size_t length, uint8_t *model, size_t size);
 
 #ifdef __cplusplus
 }

@@ -13,7 +13,7 @@ use Rattle.table.specs.Constants.{most-routines, most-params, most-bytes
 use Rattle.table.specs.Program.{Code, Routine, Program, names, items, programItems}
 use Rattle.table.specs.Check.{Place, Block, ok, bad, block, atHead, Outcome, refused, accepted, withRoutine}
 use Rattle.table.specs.Check.{bodyThen, bodies, small?, sections, checkTable}
-use Rattle.table.specs.laws.ScopeMask.{bits, bits-names, grows, double}
+use Rattle.table.specs.laws.ScopeMask.{bits, bits-names, grows, double, shift-one}
 use Rattle.table.specs.Answer.{checkedOf}
 use Rattle.table.specs.laws.Sound.{small-each}
 use Rattle.table.specs.laws.Readers.{placeOf, countsPast, readOf, blockAnswer, Ready, HasCounts, checkedFrom}
@@ -23,7 +23,6 @@ use Rattle.table.specs.declared.bodies.BlockRead.the-variants.{Read, Bad
 use Rattle.table.specs.declared.Checked.{Checked}
 use Rattle.table.specs.declared.Checked.the-variants.{Accepted, Refused}
 use Rattle.table.proofs.ReaderLaws.{read-ready}
-use Rattle.table.proofs.OpeningLaws.{shift-one}
 
 from-here : (s : List ℕ) (i : ℕ) → i < length s → drop i s ≡ getD s i 0 ∷ drop (i + 1) s
 from-here s i l = drop-cons s i 0 l ∙ ap (λ (v : ℕ). getD s i 0 ∷ drop v s) (sym (add-one i))

@@ -2,5 +2,4 @@ mod NameLaws
 mod ReaderLaws
 mod OpeningLaws
 mod HeaderLaws
-mod NumberLaws
 mod Examples

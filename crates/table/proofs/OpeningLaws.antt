@@ -18,7 +18,7 @@ use Rattle.table.specs.Check.{Head, more, closed, wrong, opened, in?, na
 use Rattle.table.specs.Check.{item}
 use Rattle.table.specs.laws.Cases.{cond-cases}
 use Rattle.table.specs.laws.Sound.{named-fit}
-use Rattle.table.specs.laws.ScopeMask.{bits, grows, double}
+use Rattle.table.specs.laws.ScopeMask.{bits, grows, shift-one}
 use Rattle.table.specs.laws.Readers.{placeOf, withItem, withNew, withFork, countsPast, countsAfter, scopeAfter}
 use Rattle.table.specs.laws.Readers.{readOf, headOf, blockAnswer, itemAnswer, afterBlock, afterFirst, finished}
 use Rattle.table.specs.laws.Readers.{Ready, CanRead, Opens, callOf, callAnswer}
@@ -51,14 +51,6 @@ scope-low at own m n rd =
     let b : n .news ≤ most-news = rd .few-news in
     let g : 2 ^ (own + n .news + 1) ≤ 2 ^ 16 = grows (own + n .news + 1) 16 (omega arith) in
     let h : m < 2 ^ (own + n .news + 1) = rd .below in
-    omega arith
-
--- what `1 << x` is
-pub shift-one : (x : ℕ) → x < 64 → (1 * 2 ^ x) % 18446744073709551616 ≡ 2 ^ x
-shift-one x l =
-    let g : 2 ^ suc x ≤ 2 ^ 64 = grows (suc x) 64 l in
-    let h : 2 ^ suc x ≡ 2 ^ x + 2 ^ x = double x in
-    let k : 2 ^ 0 ≤ 2 ^ x = grows 0 x (omega arith) in
     omega arith
 
 -- a new name below 16 leaves the mask small

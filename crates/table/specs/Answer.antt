@@ -11,7 +11,7 @@ abbrev pub checkedOf : Outcome → Checked
 checkedOf (accepted P) = Accepted (length P) (programItems P)
 checkedOf (refused e) = Refused e
 
--- the number that a caller in C gets for it
-abbrev pub numberOf : Checked → ℕ
-numberOf (Accepted routines items) = 65536 * routines + items
-numberOf (Refused e) = e
+-- the launcher's number of it
+abbrev pub checkNumber : Checked → ℕ
+checkNumber (Accepted routines items) = 65536 * routines + items
+checkNumber (Refused e) = e

@@ -2,12 +2,12 @@
 ghost use mathlib.Core.Path.{_≡_};
 ghost use mathlib.Core.Bool.{true};
 ghost use Rattle.table.specs.Check.{small?, bodies, checkTable};
-ghost use Rattle.table.specs.Answer.{checkedOf, numberOf};
+ghost use Rattle.table.specs.Answer.{checkedOf};
 ghost use Rattle.table.specs.laws.Readers.{HasCounts};
 
 mod bodies;
-mod limits;
-mod scope;
+pub mod limits;
+pub mod scope;
 
 use bodies::BlockRead;
 use bodies::Counts;
@@ -112,15 +112,4 @@ pub fn check(table: &[u8]) -> Checked
         return Checked::Refused(3);
     }
     check_sections(table, n)
-}
-
-// Checks a whole table, for a caller in C: the refusal's number, or 65,536 × routines + items.
-#[no_mangle]
-pub extern "C" fn vangpear_check(table: &[u8]) -> u32
-    ensures { λ r. ⌜ r ≡ numberOf (checkedOf (checkTable (now (table .entry)))) ⌝ }
-{
-    match check(table) {
-        Checked::Accepted(routines, items) => (65536 * routines + items) as u32,
-        Checked::Refused(e) => e as u32,
-    }
 }

@@ -22,7 +22,8 @@ returns-2 c =
 
 returns-3 : tie.Need-returns-3
 returns-3 c =
-    many-routines (c .before .before .before .before .before .before .args .table .now) (c .before .before .size .result)
+    many-routines (c .before .before .before .before .before .before .args .table .now)
+    (c .before .before .size .result)
     (c .before .before .size .ensures .0) (omega arith) (omega arith)
 
 add-if4 : tie.Need-add-if4
@@ -30,12 +31,18 @@ add-if4 c = search needs
 
 returns-4 : tie.Need-returns-4
 returns-4 c =
-    short (c .before .before .before .before .before .before .before .args .table .now) (c .before .before .before .size .result)
+    short (c .before .before .before .before .before .before .before .args .table .now)
+    (c .before .before .before .size .result)
     (c .before .before .before .size .ensures .0) (omega arith) (λ z. omega arith) (omega arith) (omega arith)
 
 check-sections-requires : tie.Need-check-sections-requires
 check-sections-requires c κs =
-    record { number = c .before .before .before .size .ensures .0; some = omega arith; few = omega arith; long = omega arith }
+    record {
+      number = c .before .before .before .size .ensures .0;
+      some = omega arith;
+      few = omega arith;
+      long = omega arith;
+    }
 
 returns-5 : tie.Need-returns-5
 returns-5 c = search needs

@@ -57,7 +57,8 @@ add-bytes c = search needs
 returns-2 : tie.Need-returns-2
 returns-2 c =
     let a = c .before .before .before .before .before .before .before .before .before .before .before .args in
-    large (a .table .now) (a .n) (c .before .before .before .before .before .before .before .before .before .before .before .pre) (cc) (omega arith)
+    large (a .table .now) (a .n) (c .before .before .before .before .before .before .before .before .before .before
+    .before .pre) (cc) (omega arith)
     (c .before .before .before .size .result + 256 * c .before .size2 .result) (omega arith) (omega arith)
 
 add-if4 : tie.Need-add-if4
@@ -69,8 +70,10 @@ add-if4-2 c = search needs
 returns-3 : tie.Need-returns-3
 returns-3 c =
     let a = c .before .before .before .before .before .before .before .before .before .before .before .before .args in
-    uneven (a .table .now) (a .n) (c .before .before .before .before .before .before .before .before .before .before .before .before .pre) (cc) (omega arith)
-    (c .before .before .before .before .size .result + 256 * c .before .before .size2 .result) (omega arith) (omega arith) (λ z. omega arith)
+    uneven (a .table .now) (a .n) (c .before .before .before .before .before .before .before .before .before .before
+    .before .before .pre) (cc) (omega arith)
+    (c .before .before .before .before .size .result + 256 * c .before .before .size2 .result) (omega arith)
+    (omega arith) (λ z. omega arith)
 
 add-read-bodies : tie.Need-add-read-bodies
 add-read-bodies c = search needs
@@ -89,10 +92,13 @@ read-bodies-requires c κs = cc
 
 returns-4 : tie.Need-returns-4
 returns-4 c =
-    let a = c .before .before .before .before .before .before .before .before .before .before .before .before .before .before .args in
+    let a = c .before .before .before .before .before .before .before .before .before .before .before .before
+    .before .before .args in
     c .read-bodies .ensures
-    ∙ both-read (a .table .now) (a .n) (c .before .before .before .before .before .before .before .before .before .before .before .before .before .before .pre) (cc) (omega arith)
-    (c .before .before .before .before .before .before .size .result + 256 * c .before .before .before .before .size2 .result) (omega arith) (omega arith) (omega arith)
+    ∙ both-read (a .table .now) (a .n) (c .before .before .before .before .before .before .before .before .before
+    .before .before .before .before .before .pre) (cc) (omega arith)
+    (c .before .before .before .before .before .before .size .result + 256 * c .before .before .before
+    .before .size2 .result) (omega arith) (omega arith) (omega arith)
 
 returns-5 : tie.Need-returns-5
 returns-5 c =

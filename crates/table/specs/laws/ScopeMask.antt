@@ -30,6 +30,14 @@ some-pow n = let h : 2 ^ 0 ≤ 2 ^ n = grows 0 n (omega arith) in omega arith
 pub double : (n : ℕ) → 2 ^ suc n ≡ 2 ^ n + 2 ^ n
 double n = two-pow-succ n
 
+-- what `1 << x` is
+pub shift-one : (x : ℕ) → x < 64 → (1 * 2 ^ x) % 18446744073709551616 ≡ 2 ^ x
+shift-one x l =
+    let g : 2 ^ suc x ≤ 2 ^ 64 = grows (suc x) 64 l in
+    let h : 2 ^ suc x ≡ 2 ^ x + 2 ^ x = double x in
+    let k : 2 ^ 0 ≤ 2 ^ x = grows 0 x (omega arith) in
+    omega arith
+
 -- a name above all others comes first
 add-below : (n x m : ℕ) → x < n → m < 2 ^ x → bitsBelow n (m + 2 ^ x) ≡ x ∷ bitsBelow n m
 add-below zero x m l h = absurd (omega arith)
@@ -69,7 +77,7 @@ pow-add a (suc b) =
     rw (e, pow-suc 2 (a + b), pow-suc 2 b, pow-add a b) (mul-assoc (2 ^ a) (2 ^ b) 2)
 
 -- a higher bit makes no difference to a lower one
-lower : (x n r : ℕ) → x < n → (2 ^ n + r) / 2 ^ x % 2 ≡ r / 2 ^ x % 2
+pub lower : (x n r : ℕ) → x < n → (2 ^ n + r) / 2 ^ x % 2 ≡ r / 2 ^ x % 2
 lower x n r lt =
     let e : n ≡ x + suc (n - suc x) = omega arith in
     let p : 2 ^ n ≡ 2 ^ x * 2 ^ suc (n - suc x) = ap (λ (v : ℕ). 2 ^ v) e ∙ pow-add x (suc (n - suc x)) in

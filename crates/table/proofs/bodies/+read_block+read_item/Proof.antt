@@ -126,7 +126,8 @@ read-block-add-t18 t c =
     (c .before .before .before .before .before .loop .inv .0) (c .before .before .next2 .given .0 .0)
     (sym (c .before .before .before .before .read-item .ensures) ∙ c .before .before .next2 .given .1) in
     let g₀ = g .0 in
-    let h : c .before .before .before .before .before .loop .n .items ≤ c .before .before .before .before .before .loop .i = c .before .before .before .before .before .loop .inv .0 .few-items in
+    let h : c .before .before .before .before .before .loop .n .items ≤ c .before .before .before .before
+    .before .loop .i = c .before .before .before .before .before .loop .inv .0 .few-items in
     search needs
 
 read-block-returns :

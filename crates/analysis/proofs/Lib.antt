@@ -1,0 +1,13 @@
+mod MaskLaws
+mod ReachLaws
+mod DueLaws
+mod SettleLaws
+mod ModelLaws
+mod BodyLaws
+mod LoopLaws
+mod SurveyLaws
+mod WorkLaws
+mod TableLaws
+mod VerdictLaws
+mod AnalyseLaws
+mod NumberLaws

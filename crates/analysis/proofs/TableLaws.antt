@@ -1,0 +1,70 @@
+-- The sections of an accepted table hold its program, as code takes them.
+use mathlib.Core.Path.{_≡_, refl, sym, ap, _∙_}
+use mathlib.Core.List.{List, [], _∷_, _++_}
+use Prim.Native.Nat.{ℕ, suc, _+_, _-_, _*_, _≤_, _<_}
+use native.Mathlib.Omega.{arith}
+use lib.ListN.{length, getD, take, drop, length-append}
+use lib.Seq.{take-at, take-all, drop-append-add}
+use Rattle.table.specs.Program.{Program, programItems}
+use Rattle.table.specs.Encoding.{encodeTable, encodeBodies, counts, twoBytes}
+use Rattle.table.specs.Check.{Outcome, refused, accepted, checkTable}
+use Rattle.table.specs.Answer.{checkedOf}
+use Rattle.table.specs.declared.Checked.the-variants.{Accepted, Refused}
+use Rattle.table.specs.laws.Sound.{sound, counts-length}
+use Rattle.table.specs.laws.Accepts.{Bytes}
+use Rattle.analysis.specs.laws.Bodies.{Holds}
+
+module _ (P : Program) where
+  -- what follows the parameter counts
+  abbrev behind : List ℕ
+  behind = twoBytes (length (encodeBodies P)) ++ encodeBodies P
+
+  abbrev T : List ℕ
+  T = encodeTable P
+
+  long : length T ≡ length P + 3 + length (encodeBodies P)
+  long =
+      let a : length (counts P ++ behind) ≡ length (counts P) + length behind = length-append (counts P) behind in
+      let b : length (counts P) ≡ length P = counts-length P in
+      omega arith
+
+  first-part : take (length P + 1 - 1) (drop 1 T) ≡ counts P
+  first-part =
+      let e : length P + 1 - 1 ≡ length P = omega arith in
+      ap (λ (v : ℕ). take v (counts P ++ behind)) e ∙ take-at (counts P) behind (length P) (counts-length P)
+
+  second-part : take (length T - (length P + 3)) (drop (length P + 3) T) ≡ encodeBodies P
+  second-part =
+      let e : length P + 3 ≡ suc (length P + 2) = omega arith in
+      let c : length P + 2 ≡ length (counts P) + 2 = ap (λ (v : ℕ). v + 2) (sym (counts-length P)) in
+      let d : drop (length P + 3) T ≡ encodeBodies P =
+      ap (λ (v : ℕ). drop v T) e ∙ ap (λ (v : ℕ). drop v (counts P ++ behind)) c
+      ∙ drop-append-add (counts P) behind 2 in
+      ap (take (length T - (length P + 3))) d
+      ∙ take-all (length T - (length P + 3)) (encodeBodies P) (let l = long in omega arith)
+
+-- the program of a table that was accepted with n routines
+module _ (table : List ℕ) (bytes : Bytes table) (n : ℕ) (P : Program) (e : checkTable table ≡ accepted P)
+    (en : n ≡ length P) where
+  is-table : table ≡ encodeTable P
+  is-table = sound table P bytes e .0
+
+  pub sections-there : n + 3 ≤ length table
+  sections-there = let a = ap length is-table in let l = long P in omega arith
+
+  pub sections-hold : Holds P (take (n + 1 - 1) (drop 1 table)) (take (length table - (n + 3)) (drop (n + 3) table))
+  sections-hold = record {
+    params-are = rw (is-table, en) (first-part P);
+    bytes-are = rw (is-table, en) (second-part P);
+    limits = sound table P bytes e .1;
+  }
+
+-- an answer of the check tells the outcome
+pub accepted-of : (x : Outcome) (n i : ℕ) → Accepted n i ≡ checkedOf x → (P : Program) × (x ≡ accepted P)
+    × (n ≡ length P)
+accepted-of (accepted P) n i e = (P, refl, cc)
+accepted-of (refused y) n i e = let z : _≡_ {A = ℕ} 0 1 = cc in absurd (omega arith)
+
+pub refused-of : (x : Outcome) (y : ℕ) → Refused y ≡ checkedOf x → x ≡ refused y
+refused-of (accepted P) y e = let z : _≡_ {A = ℕ} 0 1 = cc in absurd (omega arith)
+refused-of (refused z) y e = cc

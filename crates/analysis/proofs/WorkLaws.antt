@@ -1,0 +1,62 @@
+-- What is worked out in a body: the walk records, and the closing composes.
+use mathlib.Core.Path.{_≡_, refl, sym, ap, _∙_}
+use mathlib.Core.List.{List, _++_}
+use mathlib.Core.Option.{some}
+use Prim.Native.Nat.{ℕ, suc, _+_, _*_, _≤_, _<_}
+use native.Mathlib.Omega.{arith}
+use lib.ListN.{length, drop}
+use Rattle.table.specs.Constants.{END}
+use Rattle.table.specs.Program.{Program, body}
+use Rattle.table.specs.Encoding.{encode}
+use Rattle.table.specs.laws.Formed.{well-formed}
+use Rattle.rules.specs.Label.{Label, own}
+use Rattle.rules.specs.Model.{Kept}
+use Rattle.rules.specs.laws.Closure.{Closed}
+use Rattle.grid.specs.Grid.{Pair, Closure}
+use Rattle.rows.specs.Model.{RowBits}
+use Rattle.rows.specs.laws.Fixpoint.{KeptFrom, closed-mono, recorded-calls}
+use Rattle.pairs.specs.Fine.{IsBody}
+use Rattle.pairs.specs.Contracts.{Records}
+use Rattle.analysis.specs.Answer.{row-bytes}
+use Rattle.analysis.specs.laws.Settle.{RowsOf, GridOf}
+use Rattle.analysis.specs.laws.Bodies.{startOf, BodyOf, BodyReady, Works}
+use Rattle.analysis.proofs.BodyLaws.{body-calls}
+use Rattle.analysis.proofs.LoopLaws.{routines}
+use Rattle.analysis.proofs.SurveyLaws.{rest, fine-here, bytes-here, is-body}
+
+module _ (ks s : List ℕ) (at : ℕ) (rows : List ℕ) where
+  pub can-record : BodyReady ks s at rows → IsBody ks s at × (65 * length ks ≤ length rows)
+  can-record b =
+      let o = b .body-of in
+      let e = routines (b .program) ks s (o .holds) in
+      let l = b .long in
+      (is-body (b .program) ks s (o .holds) (b .routine) (o .listed) at (o .starts), omega arith)
+
+  pub works : (g c : List (List ℕ)) → Records ks s at rows g → Closure g c → Works ks s at rows c
+  works g c rec cl P r o = record { only = only; all = all }
+    where
+      bytes : drop at s ≡ encode END (body P r) ++ rest P ks s (o .holds) r (o .listed)
+      bytes = ap (λ (v : ℕ). drop v s) (o .starts) ∙ bytes-here P ks s (o .holds) r (o .listed)
+
+      -- the rows of the routines that the body calls are rows of the program
+      to-rows : (a b : ℕ) (l : Label) → Pair g a b l → KeptFrom (RowsOf (length P) rows) (body P r) a b l
+      to-rows a b l p =
+          let w = rec .only (body P r) _ (fine-here P ks s (o .holds) r (o .listed)) bytes a b l p in (
+            recorded-calls (RowBits rows) (RowsOf (length P) rows) (body P r)
+                (λ q x y m k h. (body-calls P (well-formed P (o .holds .limits)) r q (o .listed) k, h)) own
+                (some 0) a b l (w .0),
+            w .1,
+          )
+
+      from-rows : (a b : ℕ) (l : Label) → KeptFrom (RowsOf (length P) rows) (body P r) a b l → Pair g a b l
+      from-rows a b l w =
+          rec .all (body P r) _ (fine-here P ks s (o .holds) r (o .listed)) bytes a b l
+          (recorded-calls (RowsOf (length P) rows) (RowBits rows) (body P r) (λ q x y m k h. h .1) own
+          (some 0) a b l (w .0))
+          (w .1)
+
+      only : (a b : ℕ) (l : Label) → Pair c a b l → Closed (KeptFrom (RowsOf (length P) rows) (body P r)) a b l
+      only a b l p = closed-mono (Pair g) (KeptFrom (RowsOf (length P) rows) (body P r)) to-rows (cl .only a b l p)
+
+      all : (a b : ℕ) (l : Label) → Closed (KeptFrom (RowsOf (length P) rows) (body P r)) a b l → Pair c a b l
+      all a b l w = cl .all a b l (closed-mono (KeptFrom (RowsOf (length P) rows) (body P r)) (Pair g) from-rows w)

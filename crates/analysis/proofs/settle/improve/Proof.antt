@@ -1,0 +1,63 @@
+-- `improve` meets its contract: what is worked out in the body is added to the row.
+use mathlib.Core.Path.{_≡_, refl, sym, ap, _∙_}
+use native.Mathlib.Omega.{arith}
+use Rattle.analysis.proofs.LoopLaws.{routines, few-params, added-by}
+use borrow.Author.Needs.{needs}
+use Rattle.analysis.proofs.settle.improve.Statement.{statement}
+use Rattle.analysis.proofs.settle.improve.Tie as tie
+
+shared-slice-read-size : tie.Need-shared-slice-read-size
+shared-slice-read-size c =
+    let a = c .before .before .before .before .args in
+    let p = c .before .before .before .before .pre in
+    let e = routines (p .program) (a .ks .now) (a .s .now) (p .body-of .holds) in
+    let l = p .body-of .listed in
+    omega arith
+
+size-requires : tie.Need-size-requires
+size-requires c κs = search needs
+
+worked-out-requires : tie.Need-worked-out-requires
+worked-out-requires c κs =
+    let p = c .before .before .before .before .before .before .pre in
+    record {
+      program = p .program;
+      routine = c .before .before .before .before .before .before .args .r;
+      body-of = p .body-of;
+      long = p .long;
+    }
+
+with-row-requires : tie.Need-with-row-requires
+with-row-requires c κs =
+    let a = c .before .before .before .before .before .before .before .before .args in
+    let p = c .before .before .before .before .before .before .before .before .pre in
+    let f = few-params (p .program) (a .ks .now) (a .s .now) (a .at) (a .r) (p .body-of) in
+    let e = c .before .before .before .size .ensures .0 in
+    let l = p .long in
+    let b = p .body-of .listed in
+    (omega arith, omega arith, p .shaped)
+
+same-length : tie.Need-same-length
+same-length c =
+    c .before .before .with-row .ensures .long
+
+returns : tie.Need-returns
+returns c =
+    let a = c .before .before .before .before .before .before .before .before .before .before .before .args in
+    λ P o. record {
+      grid = c .before .before .before .before .worked-out .result;
+      pairs = c .before .before .before .before .worked-out .ensures P (a .r) o;
+      added = added-by P (a .ks .now) (a .s .now) (a .at) (a .r) o (c .before .before .before .before .before .before .size .result) (c .before .before .before .before .before .before .size .ensures .0)
+          (c .before .before .with-row .ensures);
+    }
+
+pub improve-spec : {M : Type 1} → statement M
+improve-spec =
+    tie.close
+    (tie.spec
+    shared-slice-read-size
+    size-requires
+    worked-out-requires
+    with-row-requires
+    same-length
+    returns)

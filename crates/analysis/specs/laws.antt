@@ -1,0 +1,5 @@
+pub mod Reach
+pub mod Due
+pub mod Settle
+pub mod Bodies
+pub mod Unique

@@ -1,0 +1,135 @@
+-- Where the bodies stand in the section, and what a survey of them gives.
+use mathlib.Core.Path.{_≡_}
+use mathlib.Core.Bool.{Bool}
+use mathlib.Core.List.{List, [], _∷_}
+use Prim.Native.Nat.{ℕ, zero, suc, _+_, _*_, _≤_, _<_}
+use lib.ListN.{length, getD, take}
+use Rattle.table.specs.Constants.{END}
+use Rattle.table.specs.Program.{Program, body}
+use Rattle.table.specs.Encoding.{encode, encodeBodies, counts, WithinLimits}
+use Rattle.rules.specs.Verdict.{Calls}
+use Rattle.grid.specs.Rows.{Has}
+use Rattle.rows.specs.Model.{ShapedRow}
+use Rattle.analysis.specs.Answer.{row-bytes, Says, Short, JudgedAs}
+use Rattle.analysis.specs.declared.Verdict.{Verdict}
+use Rattle.analysis.specs.laws.Settle.{GridOf, Improved, Partly}
+
+-- the offset at which the body of routine r starts
+abbrev pub startOf : Program → ℕ → ℕ
+startOf [] r = 0
+startOf (q ∷ P) zero = 0
+startOf (q ∷ P) (suc r) = length (encode END (q .code)) + startOf P r
+
+-- the parameter counts and the section of a table that holds P
+pub record Holds (P : Program) (ks s : List ℕ) : Type 0 where
+  pub params-are : ks ≡ counts P
+  pub bytes-are : s ≡ encodeBodies P
+  pub limits : WithinLimits P
+
+-- some program is held
+abbrev pub Held : List ℕ → List ℕ → Type 0
+Held ks s = (P : Program) × Holds P ks s
+
+-- the body of routine r of P starts at the offset
+pub record BodyOf (P : Program) (ks s : List ℕ) (at r : ℕ) : Type 0 where
+  pub holds : Holds P ks s
+  pub listed : r < length P
+  pub starts : at ≡ startOf P r
+
+-- a body starts at the offset, and the buffer has all rows
+pub record BodyReady (ks s : List ℕ) (at : ℕ) (rows : List ℕ) : Type 0 where
+  pub program : Program
+  pub routine : ℕ
+  pub body-of : BodyOf program ks s at routine
+  pub long : row-bytes * length program ≤ length rows
+
+-- the grid has what is worked out in the body at the offset
+abbrev pub Works : List ℕ → List ℕ → ℕ → List ℕ → List (List ℕ) → Type 0
+Works ks s at rows g = (P : Program) (r : ℕ) → BodyOf P ks s at r → GridOf P rows r g
+
+-- the body of routine r starts at the offset, and its row is there and has labels alone
+pub record RowReady (ks s : List ℕ) (at r : ℕ) (model : List ℕ) : Type 0 where
+  pub program : Program
+  pub body-of : BodyOf program ks s at r
+  pub long : row-bytes * length program ≤ length model
+  pub shaped : ShapedRow model r
+
+-- the row of routine r was worked out again
+abbrev pub Improves : List ℕ → List ℕ → ℕ → ℕ → List ℕ → List ℕ → Bool → Type 0
+Improves ks s at r before after changed = (P : Program) → BodyOf P ks s at r → Improved P before after r changed
+
+-- where the bodies start, and what each calls, as bits
+pub record Surveyed (P : Program) (starts calls : List ℕ) : Type 0 where
+  pub start : (r : ℕ) → r < length P → getD starts r 0 ≡ startOf P r
+  pub calls-to : (r q : ℕ) → r < length P → Has (getD calls r 0) q → Calls (body P r) q
+  pub calls-from : (r q : ℕ) → r < length P → Calls (body P r) q → Has (getD calls r 0) q
+  pub starts-long : length starts ≡ length P
+  pub calls-long : length calls ≡ length P
+
+-- the two arrays of a survey, cut to the routines, tell of the bodies
+pub record Surveys (ks s starts calls : List ℕ) : Type 0 where
+  pub starts-long : length starts ≡ 64
+  pub calls-long : length calls ≡ 64
+  pub told : (P : Program) → Holds P ks s → Surveyed P (take (length ks) starts) (take (length ks) calls)
+
+-- P is held and surveyed
+pub record Known (P : Program) (ks s starts calls : List ℕ) : Type 0 where
+  pub holds : Holds P ks s
+  pub surveyed : Surveyed P starts calls
+
+-- the rows are on their way, and all are due
+pub record Started (ks s starts calls model : List ℕ) : Type 0 where
+  pub program : Program
+  pub known : Known program ks s starts calls
+  pub long : row-bytes * length program ≤ length model
+  pub before : List ℕ
+  pub partly : Partly program before model (λ r. r < length program)
+
+-- where all rows were due, none is
+abbrev pub Settles : List ℕ → List ℕ → List ℕ → List ℕ → List ℕ → List ℕ → Type 0
+Settles ks s starts calls from to =
+    (P : Program) (before : List ℕ) → Known P ks s starts calls → Partly P before from (λ r. r < length P)
+    → Partly P before to (λ r. ⊥)
+
+-- the rows can be worked out
+pub record CanSettle (ks s starts calls model : List ℕ) : Type 0 where
+  pub program : Program
+  pub known : Known program ks s starts calls
+  pub long : row-bytes * length program ≤ length model
+
+-- the buffer has the rows of the least model
+abbrev pub Settled : List ℕ → List ℕ → List ℕ → List ℕ → List ℕ → List ℕ → Type 0
+Settled ks s starts calls before after =
+    (P : Program) → Known P ks s starts calls → row-bytes * length P ≤ length before → Partly P before after (λ r. ⊥)
+
+-- the rows in the buffer are those of the least model
+pub record Finished (ks s starts calls model : List ℕ) : Type 0 where
+  pub program : Program
+  pub known : Known program ks s starts calls
+  pub long : row-bytes * length program ≤ length model
+  pub before : List ℕ
+  pub partly : Partly program before model (λ r. ⊥)
+
+-- the verdict is true of the program whose rows are in the buffer
+abbrev pub Pronounces : List ℕ → List ℕ → List ℕ → List ℕ → List ℕ → Verdict → Type 0
+Pronounces ks s starts calls model verdict =
+    (P : Program) (before : List ℕ) → Known P ks s starts calls → Partly P before model (λ r. ⊥) → Says P verdict
+    × Short verdict
+
+-- the program that was surveyed is judged
+abbrev pub JudgesKnown : List ℕ → List ℕ → List ℕ → List ℕ → List ℕ → List ℕ → Verdict → Type 0
+JudgesKnown ks s starts calls before after verdict =
+    (P : Program) → Known P ks s starts calls → row-bytes * length P ≤ length before
+    → JudgedAs P before after verdict × Short verdict
+
+-- the sections hold a program whose rows fit the buffer
+pub record CanJudge (ks s model : List ℕ) : Type 0 where
+  pub program : Program
+  pub holds : Holds program ks s
+  pub long : row-bytes * length program ≤ length model
+
+-- the program is judged
+abbrev pub Judges : List ℕ → List ℕ → List ℕ → List ℕ → Verdict → Type 0
+Judges ks s before after verdict =
+    (P : Program) → Holds P ks s → row-bytes * length P ≤ length before → JudgedAs P before after verdict
+    × Short verdict

@@ -1,0 +1,47 @@
+-- Rows on their way to the least model: what holds of the buffer between two improvements, and what one leaves.
+use mathlib.Core.Path.{_≡_}
+use mathlib.Core.Bool.{Bool}
+use mathlib.Core.List.{List}
+use Prim.Native.Nat.{ℕ, _+_, _*_, _≤_, _<_}
+use lib.ListN.{length, getD}
+use Rattle.table.specs.Program.{Program, params}
+use Rattle.rules.specs.Label.{Label, several}
+use Rattle.rules.specs.Model.{Ring}
+use Rattle.rules.specs.laws.Satisfies.{Pairs}
+use Rattle.grid.specs.Grid.{Pair}
+use Rattle.rows.specs.Model.{RowBits, RingByte, Shaped, RowAdded}
+use Rattle.rows.specs.laws.Fixpoint.{Derived, Sound, UpToDate}
+use Rattle.analysis.specs.Answer.{row-bytes}
+
+-- the rows of the n routines in a buffer
+abbrev pub RowsOf : ℕ → List ℕ → Pairs
+RowsOf n model r a b l = (r < n) × RowBits model r a b l
+
+-- the pairs worked out in the body of routine r from the rows in the buffer
+abbrev pub WorkedOut : Program → List ℕ → Pairs
+WorkedOut P model = Derived P (RowsOf (length P) model)
+
+-- the row of routine r has all that is worked out for it
+pub record Fresh (P : Program) (model : List ℕ) (r : ℕ) : Type 0 where
+  pub row : UpToDate P (RowsOf (length P) model) r
+  pub ring : (x : ℕ) → WorkedOut P model r x x several → RingByte model r
+
+-- the rows have nothing that the model lacks, and all but those that are due are fresh; the rest is as it was before
+pub record Partly (P : Program) (before model : List ℕ) (due : ℕ → Type 0) : Type 0 where
+  pub long : length model ≡ length before
+  pub rest : (i : ℕ) → row-bytes * length P ≤ i → getD model i 0 ≡ getD before i 0
+  pub shaped : Shaped (length P) model
+  pub sound : Sound P (RowsOf (length P) model)
+  pub ring-sound : (r : ℕ) → r < length P → RingByte model r → (x : ℕ) × Ring P r x
+  pub fresh : (r : ℕ) → r < length P → (due r → ⊥) → Fresh P model r
+
+-- the grid has the pairs worked out in the body of routine r from the rows in the buffer
+pub record GridOf (P : Program) (model : List ℕ) (r : ℕ) (g : List (List ℕ)) : Type 0 where
+  pub only : (a b : ℕ) (l : Label) → Pair g a b l → WorkedOut P model r a b l
+  pub all : (a b : ℕ) (l : Label) → WorkedOut P model r a b l → Pair g a b l
+
+-- after is before with the row of routine r worked out again
+pub record Improved (P : Program) (before after : List ℕ) (r : ℕ) (changed : Bool) : Type 0 where
+  pub grid : List (List ℕ)
+  pub pairs : GridOf P before r grid
+  pub added : RowAdded before after r (params P r) grid changed

@@ -1,0 +1,117 @@
+-- The contract of the analysis leaves nothing free: two answers to one table, and the two buffers left, are equal.
+use mathlib.Core.Path.{_≡_, refl, sym, _∙_}
+use mathlib.Core.Logic.{_⊎_, inl, inr}
+use mathlib.Core.List.{List}
+use Prim.Native.Nat.{ℕ, zero, _+_, _*_, _/_, _%_, _≤_, _<_}
+use native.Mathlib.Nat.{div-add-mod', mod-lt}
+use native.Mathlib.Decide.{decLt}
+use native.Mathlib.Omega.{arith}
+use lib.ListN.{length, getD}
+use lib.Seq.{ext-getD}
+use Rattle.table.specs.Program.{Program}
+use Rattle.table.specs.Check.{Outcome, refused, accepted, checkTable}
+use Rattle.rules.specs.Label.{own, unknown, several}
+use Rattle.rules.specs.Model.{Row, Ring}
+use Rattle.rules.specs.laws.Verdict.{ring-at-unique, clear-no-ring}
+use Rattle.analysis.specs.declared.RingPlace.{RingPlace}
+use Rattle.analysis.specs.declared.Verdict.{Verdict}
+use Rattle.analysis.specs.declared.Verdict.the-variants.{Clear as SaysClear, Ring as SaysRing}
+use Rattle.analysis.specs.declared.Answer.{Answer}
+use Rattle.analysis.specs.declared.Answer.the-variants.{Judged}
+use Rattle.analysis.specs.Answer.{row-bytes, row-names, Flag, Cell, Models, Says, JudgedAs, Analysed}
+
+-- a fact has one flag
+pub flag-unique : (v w : ℕ) (Q : Type 0) → Flag v Q → Flag w Q → v ≡ w
+flag-unique v w Q (inl p) (inl q) = p .0 ∙ sym (q .0)
+flag-unique v w Q (inl p) (inr q) = absurd (q .1 (p .1))
+flag-unique v w Q (inr p) (inl q) = absurd (p .1 (q .1))
+flag-unique v w Q (inr p) (inr q) = p .0 ∙ sym (q .0)
+
+-- a cell has one byte
+pub cell-unique : (P : Program) (r a b v w : ℕ) → Cell P r a b v → Cell P r a b w → v ≡ w
+cell-unique P r a b v w p q =
+    let e₁ = flag-unique (p .one) (q .one) (Row P r a b own) (p .by-own) (q .by-own) in
+    let e₂ = flag-unique (p .two) (q .two) (Row P r a b unknown) (p .by-unknown) (q .by-unknown) in
+    let e₄ = flag-unique (p .four) (q .four) (Row P r a b several) (p .by-several) (q .by-several) in
+    omega arith
+
+-- the rows of a program have one content
+pub models-unique :
+    (P : Program) (model model′ : List ℕ) → Models P model → Models P model′
+    → (i : ℕ) → i < row-bytes * length P → getD model i 0 ≡ getD model′ i 0
+models-unique P model model′ m m′ i h = at (i / 65) (i % 65) (omega (arith, div-add-mod' i 65)) (mod-lt i (omega arith))
+  where
+    in-cell :
+        (r j : ℕ) → r < length P → j < 64
+        → getD model (65 * r + j) 0 ≡ getD model′ (65 * r + j) 0
+    in-cell r j k l =
+        let e : j ≡ 8 * (j / 8) + j % 8 = omega (arith, div-add-mod' j 8) in
+        let s : j % 8 < 8 = mod-lt j (omega arith) in
+        let a = j / 8 in
+        let b = j % 8 in
+        rw e (cell-unique P r a b (getD model (65 * r + (8 * a + b)) 0) (getD model′ (65 * r + (8 * a + b)) 0)
+        (m .cells r a b k (omega arith) s) (m′ .cells r a b k (omega arith) s))
+
+    at : (r j : ℕ) → i ≡ 65 * r + j → j < 65 → getD model i 0 ≡ getD model′ i 0
+    at r j e l = rw e (go (decLt j 64))
+      where
+        k : r < length P
+        k = omega arith
+
+        go : Dec (j < 64) → getD model (65 * r + j) 0 ≡ getD model′ (65 * r + j) 0
+        go (yes lt) = in-cell r j k lt
+        go (no ge) =
+            let e′ : j ≡ 64 = omega arith in
+            rw e′
+            (flag-unique (getD model (65 * r + 64) 0) (getD model′ (65 * r + 64) 0) ((x : ℕ) × Ring P r x)
+            (m .last r k) (m′ .last r k))
+
+-- a program has one verdict
+pub verdict-unique : (P : Program) (v w : Verdict) → Says P v → Says P w → v ≡ w
+verdict-unique P SaysClear SaysClear p q = refl
+verdict-unique P SaysClear (SaysRing b) p q = absurd (clear-no-ring P (b .routine) (b .name) p q)
+verdict-unique P (SaysRing a) SaysClear p q = absurd (clear-no-ring P (a .routine) (a .name) q p)
+verdict-unique P (SaysRing a) (SaysRing b) p q =
+    let e = ring-at-unique P (a .routine) (b .routine) (a .name) (b .name) p q in
+    λ i. SaysRing (record { routine = e .0 i; name = e .1 i })
+
+-- what is left of one buffer is one buffer
+pub judged-unique :
+    (P : Program) (before after after′ : List ℕ) (v w : Verdict)
+    → JudgedAs P before after v → JudgedAs P before after′ w → after ≡ after′
+judged-unique P before after after′ v w p q =
+    ext-getD 0 after after′ (p .same-length ∙ sym (q .same-length)) (λ i h. go i (decLt i (row-bytes * length P)))
+  where
+    go : (i : ℕ) → Dec (i < row-bytes * length P) → getD after i 0 ≡ getD after′ i 0
+    go i (yes lt) = models-unique P after after′ (p .model) (q .model) i lt
+    go i (no ge) = p .rest i (omega arith) ∙ sym (q .rest i (omega arith))
+
+-- two answers to one table, from one buffer, are equal, and so are the buffers left
+pub analysed-unique :
+    (table before after after′ : List ℕ) (answer answer′ : Answer)
+    → Analysed table before after answer → Analysed table before after′ answer′
+    → (after ≡ after′) × (answer ≡ answer′)
+analysed-unique table before after after′ answer answer′ p q = by (checkTable table) refl
+  where
+    judged : (P : Program) → checkTable table ≡ accepted P → row-bytes * length P ≤ length before
+        → (after ≡ after′) × (answer ≡ answer′)
+    judged P e h =
+        let x = p .judged P e h in
+        let y = q .judged P e h in
+        let same = verdict-unique P (x .0) (y .0) (x .2 .says) (y .2 .says) in
+        (judged-unique P before after after′ (x .0) (y .0) (x .2) (y .2), cc (x .1, y .1, same))
+
+    sized : (P : Program) → checkTable table ≡ accepted P → Dec (length before < row-bytes * length P)
+        → (after ≡ after′) × (answer ≡ answer′)
+    sized P e (yes lt) =
+        let x = p .refused-buffer P e lt in
+        let y = q .refused-buffer P e lt in
+        (cc (x .1, y .1), cc (x .0, y .0))
+    sized P e (no ge) = judged P e (omega arith)
+
+    by : (o : Outcome) → checkTable table ≡ o → (after ≡ after′) × (answer ≡ answer′)
+    by (refused n) e =
+        let x = p .refused-table n e in
+        let y = q .refused-table n e in
+        (cc (x .1, y .1), cc (x .0, y .0))
+    by (accepted P) e = sized P e (decLt (length before) (row-bytes * length P))

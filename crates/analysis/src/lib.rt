@@ -1,0 +1,135 @@
+// The analysis: the least model of a table in a lent buffer, and the verdict.
+ghost use mathlib.Core.Path.{_≡_};
+ghost use Prim.Native.Nat.{_<_};
+ghost use Rattle.table.specs.Check.{checkTable};
+ghost use Rattle.table.specs.Answer.{checkNumber, checkedOf};
+ghost use Rattle.analysis.specs.Answer.{Analysed, AnalysedAs, Fits, Short, verdictNumber};
+ghost use Rattle.analysis.specs.laws.Bodies.{Finished, Pronounces, CanSettle, JudgesKnown, CanJudge, Judges};
+
+mod due;
+mod reach;
+mod settle;
+mod survey;
+
+use survey::Survey;
+use survey::survey_bodies;
+use table::Checked;
+use table::check;
+
+// How many bytes a routine's row has.
+pub const ROW_BYTES: usize = 65;
+
+// The refusal of a model buffer that is too short.
+pub const SHORT_BUFFER: u64 = 15;
+
+// A ring: the routine and the name.
+pub struct RingPlace {
+    pub routine: u64,
+    pub name: u64,
+}
+
+// What is said of a table that is accepted.
+pub enum Verdict {
+    Clear,
+    Ring(RingPlace),
+}
+
+// What the analysis answers: the verdict, or the number of a refusal.
+pub enum Answer {
+    Judged(Verdict),
+    Refused(u64),
+}
+
+// What is said of a program whose rows are in the buffer.
+fn verdict_of(ks: &[u8], s: &[u8], starts: &[usize], calls: &[u64], model: &[u8]) -> Verdict
+    requires { ⌜ Finished (now ks) (now s) (now starts) (now calls) (now model) ⌝ }
+    ensures { λ v. ⌜ Pronounces (now (ks .entry)) (now (s .entry)) (now (starts .entry)) (now (calls .entry))
+        (now (model .entry)) v ⌝ }
+{
+    let n = ks.len();
+    let mask = reach::reached(calls);
+    let r = due::lowest_ring(model, n, mask);
+    if r < n {
+        let g = settle::worked_out(ks, s, starts[r], model);
+        let x = grid::ring_name(g);
+        Verdict::Ring(RingPlace {
+            routine: r as u64,
+            name: x as u64,
+        })
+    } else {
+        Verdict::Clear
+    }
+}
+
+// Leaves the model of a program that was surveyed, and judges it.
+fn judge_surveyed(ks: &[u8], s: &[u8], starts: &[usize], calls: &[u64], model: &mut [u8]) -> Verdict
+    requires { ⌜ CanSettle (now ks) (now s) (now starts) (now calls) (now model) ⌝ }
+    ensures { λ v. ⌜ JudgesKnown (now (ks .entry)) (now (s .entry)) (now (starts .entry)) (now (calls .entry))
+        (now (model .entry)) (now (model .exit)) v ⌝ }
+{
+    settle::settle(ks, s, starts, calls, model);
+    verdict_of(ks, s, starts, calls, model)
+}
+
+// Leaves the model of the program that the sections hold, and judges it.
+fn judge(ks: &[u8], s: &[u8], model: &mut [u8]) -> Verdict
+    requires { ⌜ CanJudge (now ks) (now s) (now model) ⌝ }
+    ensures { λ v. ⌜ Judges (now (ks .entry)) (now (s .entry)) (now (model .entry)) (now (model .exit)) v ⌝ }
+{
+    let n = ks.len();
+    let v = survey_bodies(ks, s);
+    let starts = v.starts;
+    let calls = v.calls;
+    judge_surveyed(ks, s, &starts[0..n], &calls[0..n], model)
+}
+
+// Analyses a table: leaves its model in the buffer, and answers the verdict; or answers the refusal.
+pub fn analyse(table: &[u8], model: &mut [u8]) -> Answer
+    ensures analysed { λ r. ⌜ Analysed (now (table .entry)) (now (model .entry)) (now (model .exit)) r ⌝ }
+    ensures fits { λ r. ⌜ Fits r ⌝ }
+{
+    match check(table) {
+        Checked::Refused(e) => Answer::Refused(e),
+        Checked::Accepted(routines, _) => {
+            let n = routines as usize;
+            if model.len() < ROW_BYTES * n {
+                return Answer::Refused(SHORT_BUFFER);
+            }
+            let v = judge(&table[1..n + 1], &table[n + 3..], model);
+            Answer::Judged(v)
+        }
+    }
+}
+
+// The launcher's number of a verdict.
+fn verdict_number(v: Verdict) -> u64
+    requires { ⌜ Short v ⌝ }
+    ensures { λ r. ⌜ (r ≡ verdictNumber v) × (r < 4294967296) ⌝ }
+{
+    match v {
+        Verdict::Clear => 0,
+        Verdict::Ring(ring) => 65536 + 1024 * ring.routine + 32 * ring.name,
+    }
+}
+
+// Analyses a table, for a caller in C: 0 for clear, the refusal's number, or 65,536 + 1,024 × routine + 32 × name.
+#[no_mangle]
+pub extern "C" fn vangpear_analyse(table: &[u8], model: &mut [u8]) -> u32
+    ensures { λ r. ⌜ AnalysedAs (now (table .entry)) (now (model .entry)) (now (model .exit)) r ⌝ }
+{
+    match analyse(table, model) {
+        Answer::Judged(v) => verdict_number(v) as u32,
+        Answer::Refused(e) => e as u32,
+    }
+}
+
+// Checks a whole table, for a caller in C: the refusal's number, or 65,536 × routines + items.
+#[no_mangle]
+pub extern "C" fn vangpear_check(table: &[u8]) -> u32
+    ensures { λ r. ⌜ r ≡ checkNumber (checkedOf (checkTable (now (table .entry)))) ⌝ }
+{
+    match check(table) {
+        Checked::Accepted(routines, items) => (65536 * routines + items) as u32,
+        Checked::Refused(e) => e as u32,
+    }
+}

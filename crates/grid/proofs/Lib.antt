@@ -1,0 +1,6 @@
+pub mod Relations
+pub mod Pivots
+pub mod Shapes
+pub mod Loops
+pub mod Recorded
+pub mod Closed

@@ -1,0 +1,4 @@
+pub mod Grid
+pub mod Rows
+pub mod Planes
+pub mod laws

@@ -1,0 +1,116 @@
+// A grid as one relation a label, from the second name of a pair to the first: the planes, and their mixes.
+ghost use mathlib.Core.Path.{_≡_};
+ghost use Prim.Native.Nat.{_<_};
+ghost use Rattle.grid.specs.Rows.{Has, Edge, SomeRow, Same, Bits};
+ghost use Rattle.grid.specs.Planes.{Labelled, RowLabels, PlanesOf, Within, Chosen, Clashing, MixOf};
+use crate::Grid;
+use crate::rows;
+use crate::rows::Rows;
+
+// Plane l: the pairs with label l, each from its second name to its first.
+pub type Planes = [[u16; 16]; 11];
+
+// The labels of the pairs from each name.
+pub fn labels(g: Grid) -> Rows
+    ensures { λ t. ⌜ Same (Edge t) (RowLabels g) ⌝ }
+{
+    let mut next = [0u16; 16];
+    for i in 0..16usize {
+        let row = g[i];
+        let m = rows::any(row);
+        if m != 0 {
+            next[i] = m;
+        }
+    }
+    next
+}
+
+// The pairs that label l has; u has the labels of the pairs from each name.
+pub fn plane(g: &Grid, u: Rows, l: usize) -> Rows
+    requires { ⌜ (l < 11) × Same (Edge u) (RowLabels (now g)) ⌝ }
+    ensures { λ t. ⌜ Same (Edge t) (Labelled (now (g .entry)) l) ⌝ }
+{
+    let mut next = [0u16; 16];
+    for i in 0..16usize {
+        let m = u[i];
+        if (m >> (l as u16)) % 2 == 1 {
+            let row = g[i];
+            let t = rows::spread(next, row, l, 1u16 << (i as u16));
+            next = t;
+        }
+    }
+    next
+}
+
+// The pairs of each label; u has the labels of the pairs from each name, and c those of all.
+pub fn planes(g: &Grid, u: Rows, c: u16) -> Planes
+    requires { ⌜ Same (Edge u) (RowLabels (now g)) × Bits c (SomeRow u) ⌝ }
+    ensures { λ t. ⌜ PlanesOf (now (g .entry)) t ⌝ }
+{
+    let mut next = [[0u16; 16]; 11];
+    for l in 0..11usize {
+        if (c >> (l as u16)) % 2 == 1 {
+            let t = plane(g, u, l);
+            next[l] = t;
+        }
+    }
+    next
+}
+
+// The pairs of the labels in the mask c.
+pub fn chosen(p: &Planes, c: u16) -> Rows
+    ensures { λ t. ⌜ Same (Edge t) (Chosen (now (p .entry)) c) ⌝ }
+{
+    let mut next = [0u16; 16];
+    for l in 0..11usize {
+        if (c >> (l as u16)) % 2 == 1 {
+            let q = p[l];
+            let t = rows::union(next, q);
+            next = t;
+        }
+    }
+    next
+}
+
+// The mask of label m if m and then l combine to several, else 0.
+pub fn clash(l: usize, m: usize) -> u16
+    requires { ⌜ (l < 11) × (m < 11) ⌝ }
+    ensures { λ t. ⌜ Bits t (λ k. (k ≡ m) × Clashing l k) ⌝ }
+{
+    if rules::combine(m, l) == 10 {
+        1u16 << (m as u16)
+    } else {
+        0
+    }
+}
+
+// The labels of c that combine to several with l after them.
+pub fn clashing(l: usize, c: u16) -> u16
+    requires { ⌜ l < 11 ⌝ }
+    ensures { λ t. ⌜ Bits t (λ m. Has c m × Clashing l m) ⌝ }
+{
+    let mut t: u16 = 0;
+    for m in 0..11usize {
+        if (c >> (m as u16)) % 2 == 1 {
+            t = t | clash(l, m);
+        }
+    }
+    t
+}
+
+// The pairs labelled several, and those that follow from two with that label; c has the planes that are not empty.
+pub fn mixed(p: &Planes, c: u16) -> Rows
+    requires { ⌜ Within (now p) c ⌝ }
+    ensures { λ t. ⌜ Same (Edge t) (MixOf (now (p .entry))) ⌝ }
+{
+    let mut next = p[10];
+    for l in 0..11usize {
+        if (c >> (l as u16)) % 2 == 1 {
+            let q = p[l];
+            let o = chosen(p, clashing(l, c));
+            let t = rows::product(next, q, o);
+            next = t;
+        }
+    }
+    next
+}

@@ -1,0 +1,282 @@
+-- What grids gain: nothing, one gain after another, and the pairs of one cell, LOCK or CALL.
+use mathlib.Core.Path.{_≡_, refl, sym, ap, subst, _∙_}
+use mathlib.Core.Logic.{_⊎_, inl, inr, ⊎-elim}
+use mathlib.Core.List.{List, [], _∷_}
+use mathlib.Core.Option.{Option, none, some}
+use Prim.Native.Nat.{ℕ, zero, suc, _+_, _-_, _*_, _/_, _%_, _^_, _≤_, _<_}
+use native.Mathlib.Omega.{arith}
+use native.Mathlib.Decide.{decLt}
+use native.Mathlib.Nat.{div-one}
+use lib.Bits.{bitOr, or-lt}
+use lib.ListN.{length, getD, getElem?, drop, length-drop}
+use lib.Seq.{length-take-le, getD-take, getD-drop}
+use borrow.Author.Tests.{le-ltb}
+use Rattle.rules.specs.Label.{Label, own, unknown, several, placed}
+use Rattle.rules.specs.Number.{labelOf}
+use Rattle.rules.specs.Model.{renamed}
+use Rattle.grid.specs.Rows.{Has, Bits}
+use Rattle.grid.specs.Grid.{In, Small, Added}
+use Rattle.grid.specs.laws.Masks.{has-zero, below-bits, bits-or, bits-shl}
+use Rattle.pairs.specs.Walks.{heldBy, argOf, holderOf, threadOf}
+use Rattle.pairs.specs.Gains.{LockGives, CallGives, Gains, namesAt, Low, MaskGives, Placed}
+use Rattle.rows.specs.Model.{Labelled, RowBits}
+use Rattle.pairs.specs.Gains.{CellGives, RowGives, RowReady, CallReady}
+use Rattle.pairs.proofs.Steps.{held-name}
+use Rattle.pairs.specs.declared.walk.Walk.{Walk}
+
+pub gains-none : (g : List (List ℕ)) (N : ℕ → ℕ → Label → Type 0) → Small g → ((a b : ℕ) (l : Label) → N a b l → ⊥)
+    → Gains g N g
+gains-none g N s n = record {
+  small = s;
+  kept = λ h. h;
+  only = λ a b l p. inl p;
+  old = λ a b l p. p;
+  new = λ a b l p k. absurd (n a b l p);
+}
+
+pub gains-then : {g h r : List (List ℕ)} {N M : ℕ → ℕ → Label → Type 0} → Gains g N h → Gains h M r
+    → Gains g (λ a b l. N a b l ⊎ M a b l) r
+gains-then p q = record {
+  small = q .small;
+  kept = λ h. q .kept (p .kept h);
+  only = λ a b l w.
+      ⊎-elim
+      (λ z. ⊎-elim (λ y. inl y) (λ y. inr (inl (y .0), y .1)) (p .only a b l z))
+      (λ z. inr (inr (z .0), z .1))
+      (q .only a b l w);
+  old = λ a b l w. q .old a b l (p .old a b l w);
+  new = λ a b l w k. ⊎-elim (λ z. q .old a b l (p .new a b l z k)) (λ z. q .new a b l z k) w;
+}
+
+pub gains-map : {g r : List (List ℕ)} {N M : ℕ → ℕ → Label → Type 0} → ((a b : ℕ) (l : Label) → N a b l → M a b l)
+    → ((a b : ℕ) (l : Label) → M a b l → N a b l) → Gains g N r → Gains g M r
+gains-map f h p = record {
+  small = p .small;
+  kept = p .kept;
+  only = λ a b l w. ⊎-elim (λ z. inl z) (λ z. inr (f a b l (z .0), z .1)) (p .only a b l w);
+  old = p .old;
+  new = λ a b l w k. p .new a b l (h a b l w) k;
+}
+
+-- the pairs of one cell
+pub gains-added : {g r : List (List ℕ)} {a b : ℕ} {L : Label → Type 0} → Added g a b L r
+    → Gains g (λ x y l. (x ≡ a) × (y ≡ b) × L l) r
+gains-added {g} {r} {a} {b} {L} p = record {
+  small = p .small;
+  kept = p .kept;
+  only = λ x y l w. ⊎-elim (λ z. inl z) (λ z. inr ((z .0, z .1, z .2), rw (z .0, z .1) (z .3))) (p .only x y l w);
+  old = p .old;
+  new = λ x y l w k. rw (w .0, w .1) (p .new l (w .2) (rw (w .0, w .1) at k));
+}
+
+-- what a byte that stands for a name, or for nothing, tells
+pub held-none : (n : ℕ) → 16 ≤ n → heldBy n ≡ none
+held-none n h = rw (le-ltb n 16 h)
+
+pub held-same : (n x : ℕ) → n < 16 → heldBy n ≡ some x → x ≡ n
+held-same n x h e = let f = held-name n h in let g : some n ≡ some x = sym f ∙ e in cc
+
+pub held-never : (n x : ℕ) → 16 ≤ n → heldBy n ≡ some x → ⊥
+held-never n x h e =
+    let f : none ≡ some x = sym (held-none n h) ∙ e in let z : _≡_ {A = ℕ} 0 1 = cc in omega arith
+
+pub cell-gains : {g r : List (List ℕ)} (a b m : ℕ) → a < 16 → b < 16 → Added g a b (In m) r
+    → Gains g (MaskGives (heldBy a) (heldBy b) m) r
+cell-gains a b m ha hb p =
+    gains-map
+    (λ x y l w. (held-name a ha ∙ ap some (sym (w .0)), held-name b hb ∙ ap some (sym (w .1)), w .2))
+    (λ x y l w. (held-same a x ha (w .0), held-same b y hb (w .1), w .2))
+    (gains-added p)
+
+pub lock-gains : {g r : List (List ℕ)} (h x t : ℕ) → h < 16 → Added g h x (λ k. k ≡ labelOf t) r
+    → Gains g (LockGives x (labelOf t) (heldBy h)) r
+lock-gains h x t k p =
+    gains-map
+    (λ a b l w. (held-name h k ∙ ap some (sym (w .0)), w .1, w .2))
+    (λ a b l w. (held-same h a k (w .0), w .1, w .2))
+    (gains-added p)
+
+-- the i-th name of a list
+pub name-some : (xs : List ℕ) (i : ℕ) → i < length xs → getElem? xs i ≡ some (getD xs i 0)
+name-some [] i h = absurd (omega arith)
+name-some (x ∷ xs) zero h = refl
+name-some (x ∷ xs) (suc i) h = name-some xs i (omega arith)
+
+pub name-none : (xs : List ℕ) (i : ℕ) → length xs ≤ i → getElem? xs i ≡ none
+name-none [] i h = refl
+name-none (x ∷ xs) zero h = absurd (omega arith)
+name-none (x ∷ xs) (suc i) h = name-none xs i (omega arith)
+
+pub renamed-within : (h : Option ℕ) (xs : List ℕ) (i x : ℕ) → renamed h xs i ≡ some x → i ≤ length xs
+renamed-within h xs zero x e = omega arith
+renamed-within h [] (suc i) x e = let z : _≡_ {A = ℕ} 0 1 = cc in omega arith
+renamed-within h (y ∷ xs) (suc zero) x e = omega arith
+renamed-within h (y ∷ xs) (suc (suc i)) x e = let z = renamed-within h xs (suc i) x e in omega arith
+
+module _ (s : List ℕ) (at k : ℕ) (l : at + k ≤ length s) where
+  pub names-length : length (namesAt s at k) ≡ k
+  names-length = length-take-le k (drop at s) (rw (length-drop at s) (omega arith))
+
+  pub names-byte : (i : ℕ) → i < k → getD (namesAt s at k) i 0 ≡ getD s (at + i) 0
+  names-byte i h = getD-take k (drop at s) i 0 h ∙ getD-drop at s i 0
+
+  pub renamed-name : (h : Option ℕ) → Low (namesAt s at k) → (i : ℕ) → 1 ≤ i → i ≤ k
+      → heldBy (getD s (at + (i - 1)) 0) ≡ renamed h (namesAt s at k) i
+  renamed-name h n zero a b = absurd (omega arith)
+  renamed-name h n (suc i) a b =
+      let e : suc i - 1 ≡ i = omega arith in
+      let f = names-byte i (omega arith) in
+      let g : getD s (at + i) 0 < 16 = rw f at (n i) in
+      rw e (held-name (getD s (at + i) 0) g ∙ ap some (sym f)
+      ∙ sym (name-some (namesAt s at k) i (let z = names-length in omega arith)))
+
+  pub renamed-none : (h : Option ℕ) (i : ℕ) → k < i → none ≡ renamed h (namesAt s at k) i
+  renamed-none h zero b = absurd (omega arith)
+  renamed-none h (suc i) b = sym (name-none (namesAt s at k) i (let z = names-length in omega arith))
+
+pub renamed-first : (n : ℕ) (xs : List ℕ) (i : ℕ) → i ≡ 0 → heldBy n ≡ renamed (heldBy n) xs i
+renamed-first n xs i e = rw e
+
+-- the mask of a cell's labels in a thread, as the code works it out
+pub placed-mask : (v t : ℕ) → t ≤ 8
+    → Placed v t
+    (bitOr (bitOr (v % 2 * 2 ^ t % 65536) (v / 2 ^ 1 % 2 * 2 ^ 9 % 65536)) (v / 2 ^ 2 % 2 * 2 ^ 10 % 65536))
+placed-mask v t l = record { small = low; only = only; all = all }
+  where
+    x : ℕ
+    x = v % 2 * 2 ^ t % 65536
+
+    y : ℕ
+    y = v / 2 ^ 1 % 2 * 2 ^ 9 % 65536
+
+    z : ℕ
+    z = v / 2 ^ 2 % 2 * 2 ^ 10 % 65536
+
+    mask : ℕ
+    mask = bitOr (bitOr x y) z
+
+    zeroth : Bits x (λ j. Has v 0 × (j ≡ t))
+    zeroth =
+        let e : v / 2 ^ 0 ≡ v = div-one v in
+        subst (λ (u : ℕ). Bits (u % 2 * 2 ^ t % 65536) (λ j. Has v 0 × (j ≡ t))) e (bits-shl v 0 t (omega arith))
+
+    bits : Bits mask (λ j. ((Has v 0 × (j ≡ t)) ⊎ (Has v 1 × (j ≡ 9))) ⊎ (Has v 2 × (j ≡ 10)))
+    bits = bits-or (bits-or zeroth (bits-shl v 1 9 (omega arith))) (bits-shl v 2 10 (omega arith))
+
+    low : mask < 2048
+    low =
+        below-bits 11 mask
+        (or-lt 16 (bitOr x y) z (or-lt 16 x y (omega arith) (omega arith)) (omega arith))
+        (λ j h.
+        ⊎-elim
+        (⊎-elim (λ p. let e = p .1 in omega arith) (λ p. let e = p .1 in omega arith))
+        (λ p. let e = p .1 in omega arith)
+        (bits .to j h))
+
+    only : (k : Label) → In mask k → (m : Label) × Labelled v m × (k ≡ placed (labelOf t) m)
+    only k p =
+        ⊎-elim
+        (⊎-elim
+        (λ z. (own, z .0, p .2 ∙ ap labelOf (z .1)))
+        (λ z. (unknown, z .0, p .2 ∙ ap labelOf (z .1))))
+        (λ z. (several, z .0, p .2 ∙ ap labelOf (z .1)))
+        (bits .to (p .0) (p .3))
+
+    all : (k : Label) → Labelled v k → In mask (placed (labelOf t) k)
+    all own h = (t, omega arith, refl, bits .from t (inl (inl (h, refl))))
+    all unknown h = (9, omega arith, refl, bits .from 9 (inl (inr (h, refl))))
+    all several h = (10, omega arith, refl, bits .from 10 (inr (h, refl)))
+
+no-label : (v : ℕ) (m : Label) → v ≡ 0 → Labelled v m → ⊥
+no-label v own e h = has-zero 0 (rw e at h)
+no-label v unknown e h = has-zero 1 (rw e at h)
+no-label v several e h = has-zero 2 (rw e at h)
+
+module _ (rows : List ℕ) (first : ℕ) (xs : List ℕ) (θ : Label) (h : Option ℕ) where
+  pub cells-none : (g : List (List ℕ)) → Small g → Gains g (RowGives rows first xs θ h 0) g
+  cells-none g s = gains-none g _ s (λ a b l w. let z = w .1 in omega arith)
+
+  cells-more : {g n r : List (List ℕ)} (j : ℕ) → Gains g (RowGives rows first xs θ h j) n
+      → Gains n (CellGives rows first xs θ h j) r → Gains g (RowGives rows first xs θ h (j + 1)) r
+  cells-more j p q =
+      gains-map
+      (λ a b l w. ⊎-elim (λ z. let y = z .1 in (z .0, omega arith, z .2)) (λ z. (j, omega arith, z)) w)
+      (λ a b l w.
+      elim (decLt (w .0) j) [
+        | yes z ↦ inl (w .0, z, w .2)
+        | no z ↦ let y = w .1 in let e : w .0 ≡ j = omega arith in inr (rw e at (w .2))
+      ])
+      (gains-then p q)
+
+  pub cells-skip : {g n : List (List ℕ)} (j : ℕ) → Gains g (RowGives rows first xs θ h j) n
+      → getD rows (first + j) 0 ≡ 0 → Gains g (RowGives rows first xs θ h (j + 1)) n
+  cells-skip {g} {n} j p e = cells-more j p (gains-none n _ (p .small) (λ a b l w. no-label _ (w .2 .0) e (w .2 .1)))
+
+pub cells-next : (rows : List ℕ) (first : ℕ) (xs : List ℕ) (t : ℕ) (h : Option ℕ) {g n r : List (List ℕ)}
+    (j a b m : ℕ)
+    → Gains g (RowGives rows first xs (labelOf t) h j) n → heldBy a ≡ renamed h xs (j / 8) → heldBy b ≡ renamed h xs
+    (j % 8)
+    → Placed (getD rows (first + j) 0) t m → Gains n (MaskGives (heldBy a) (heldBy b) m) r
+    → Gains g (RowGives rows first xs (labelOf t) h (j + 1)) r
+cells-next rows first xs t h j a b m p ea eb q w =
+    cells-more rows first xs (labelOf t) h j p
+    (gains-map
+    (λ x y l z. (sym ea ∙ z .0, sym eb ∙ z .1, q .only l (z .2)))
+    (λ x y l z. (ea ∙ z .0, eb ∙ z .1, rw (z .2 .2) (q .all (z .2 .0) (z .2 .1))))
+    w)
+
+-- all cells of the row
+pub cells-all : (rows : List ℕ) (r k j : ℕ) (xs : List ℕ) (θ : Label) (h : Option ℕ) {g n : List (List ℕ)}
+    → k ≤ 7 → length xs ≡ k → j ≡ 8 * k + 8 → Gains g (RowGives rows (65 * r) xs θ h j) n
+    → Gains g (CallGives (RowBits rows) r xs θ h) n
+cells-all rows r k j xs θ h lk lx ej p =
+    gains-map
+    (λ a b l w.
+    let i = w .0 in
+    let z = w .1 in
+    let e : 65 * r + 8 * (i / 8) + i % 8 ≡ 65 * r + i = omega arith in
+    (i / 8, i % 8, w .2 .2 .0, (omega arith, omega arith, rw e (w .2 .2 .1)), w .2 .0, w .2 .1, w .2 .2 .2))
+    (λ a b l w.
+    let a₀ = w .0 in
+    let b₀ = w .1 in
+    let z = renamed-within h xs a₀ a (w .4) in
+    let y = w .3 .1 in
+    let e : (8 * a₀ + b₀) / 8 ≡ a₀ = omega arith in
+    let f : (8 * a₀ + b₀) % 8 ≡ b₀ = omega arith in
+    let d : 65 * r + (8 * a₀ + b₀) ≡ 65 * r + 8 * a₀ + b₀ = omega arith in
+    (8 * a₀ + b₀, omega arith, (rw e (w .4), rw f (w .5), (w .2, rw d (w .3 .2), w .6))))
+    p
+
+-- the row of a call, with the numbers that the code reads for it
+module _ (ks s rows : List ℕ) (w : Walk) (ready : CallReady ks s rows w) (q k t : ℕ) (eq : q ≡ argOf s w)
+    (ek : k ≡ getD ks q 0) (et : t ≡ threadOf w) where
+  count-is : k ≡ getD ks (argOf s w) 0
+  count-is = ek ∙ ap (λ (v : ℕ). getD ks v 0) eq
+
+  pub row-ready : RowReady s (w .at + 2) k rows (65 * q) t
+  row-ready =
+      let a = ready .routine in
+      let b = ready .long in
+      record {
+        there = rw count-is (ready .there);
+        params = rw count-is (ready .params);
+        names = rw count-is (ready .names);
+        long = omega arith;
+        thread = rw et (ready .thread);
+      }
+
+  pub row-gains : {g r : List (List ℕ)} (h : ℕ) → h ≡ holderOf w
+      → Gains g (RowGives rows (65 * q) (namesAt s (w .at + 2) k) (labelOf t) (heldBy h) (8 * k + 8)) r
+      → Gains g (CallGives (RowBits rows) (argOf s w) (namesAt s (w .at + 2) (getD ks (argOf s w) 0))
+      (labelOf (threadOf w))
+      (heldBy (holderOf w))) r
+  row-gains {g} {r} h eh p =
+      let f = ap (λ (v : ℕ). 8 * v + 8) count-is in
+      let named : Gains g
+      (RowGives rows (65 * q) (namesAt s (w .at + 2) (getD ks (argOf s w) 0)) (labelOf t) (heldBy h)
+      (8 * k + 8)) r =
+      subst (λ (v : ℕ). Gains g
+      (RowGives rows (65 * q) (namesAt s (w .at + 2) v) (labelOf t) (heldBy h) (8 * k + 8)) r)
+      count-is p in
+      cells-all rows (argOf s w) (getD ks (argOf s w) 0) (8 * k + 8) _ _ _ (ready .params)
+      (names-length s (w .at + 2) _ (ready .there)) f (rw (eq, et, eh) at named)

@@ -1,0 +1,6 @@
+pub mod Pending
+pub mod Parts
+pub mod Steps
+pub mod Scanning
+pub mod Gaining
+pub mod Recording

@@ -1,0 +1,33 @@
+-- What the two walks over a body give.
+use mathlib.Core.Path.{_≡_}
+use mathlib.Core.List.{List, _++_}
+use mathlib.Core.Option.{some}
+use Prim.Native.Nat.{ℕ, _+_, _<_}
+use lib.ListN.{length, drop}
+use Rattle.table.specs.Constants.{END}
+use Rattle.table.specs.Program.{Code}
+use Rattle.table.specs.Encoding.{encode}
+use Rattle.rules.specs.Verdict.{Calls}
+use Rattle.rules.specs.Label.{Label, own}
+use Rattle.rules.specs.Model.{Kept}
+use Rattle.rules.specs.laws.Satisfies.{RecordedFrom}
+use Rattle.grid.specs.Rows.{Has}
+use Rattle.grid.specs.Grid.{Pair, Small, AllKept}
+use Rattle.pairs.specs.Fine.{Fine}
+use Rattle.rows.specs.Model.{RowBits}
+
+-- the body at the offset ends before `next`, and `calls` has the bits of the routines that its calls name
+pub record Scans (ks s : List ℕ) (at next calls : ℕ) : Type 0 where
+  pub ends : (c : Code) (t : List ℕ) → Fine ks c → drop at s ≡ encode END c ++ t → next ≡ at + length (encode END c)
+  pub only : (c : Code) (t : List ℕ) → Fine ks c → drop at s ≡ encode END c ++ t → (q : ℕ) → Has calls q → Calls c q
+  pub all : (c : Code) (t : List ℕ) → Fine ks c → drop at s ≡ encode END c ++ t → (q : ℕ) → Calls c q → Has calls q
+  pub listed : (q : ℕ) → Has calls q → q < length ks
+
+-- the grid g has exactly the kept ones of the pairs that the body at the offset records, where `rows` has the rows
+pub record Records (ks s : List ℕ) (at : ℕ) (rows : List ℕ) (g : List (List ℕ)) : Type 0 where
+  pub small : Small g
+  pub kept : AllKept g
+  pub only : (c : Code) (t : List ℕ) → Fine ks c → drop at s ≡ encode END c ++ t
+      → (a b : ℕ) (l : Label) → Pair g a b l → RecordedFrom (RowBits rows) c own (some 0) a b l × Kept a b l
+  pub all : (c : Code) (t : List ℕ) → Fine ks c → drop at s ≡ encode END c ++ t
+      → (a b : ℕ) (l : Label) → RecordedFrom (RowBits rows) c own (some 0) a b l → Kept a b l → Pair g a b l

@@ -1,0 +1,82 @@
+// The walk over a body that was accepted: the routines that it calls, and the pairs that it records.
+ghost use mathlib.Core.Path.{_≡_};
+ghost use mathlib.Core.Logic.{_⊎_};
+ghost use Prim.Native.Nat.{_*_, _<_, _≤_};
+ghost use lib.ListN.{length};
+ghost use Rattle.grid.specs.Rows.{Has, Bits};
+ghost use Rattle.pairs.specs.Fine.{IsBody};
+ghost use Rattle.pairs.specs.Contracts.{Scans, Records};
+
+mod calls;
+mod walk;
+
+use calls::called;
+use calls::locked;
+use grid::Grid;
+use grid::empty;
+use table::limits::CALL;
+use table::limits::LOCK;
+use walk::next;
+use walk::over;
+use walk::start;
+
+// What scanning a body gives: the offset after it, and the routines that its calls name, as bits.
+pub struct Scanned {
+    pub next: usize,
+    pub calls: u64,
+}
+
+// The routines `calls`, and q.
+fn with_call(calls: u64, q: u8) -> u64
+    requires { ⌜ q < 64 ⌝ }
+    ensures { λ r. ⌜ Bits r (λ j. Has calls j ⊎ (j ≡ q)) ⌝ }
+{
+    calls | (1 << (q as u64))
+}
+
+// Scans the body at `at`.
+pub fn scan(ks: &[u8], s: &[u8], at: usize) -> Scanned
+    requires { ⌜ IsBody (now ks) (now s) at × (length (now ks) ≤ 64) ⌝ }
+    ensures { λ r. ⌜ Scans (now (ks .entry)) (now (s .entry)) at (r .next) (r .calls) ⌝ }
+{
+    let mut w = start(at);
+    let mut calls = 0u64;
+    loop {
+        let i = w.at;
+        let b = s[i];
+        if over(b, w.top) {
+            return Scanned {
+                next: i + 1,
+                calls: calls,
+            };
+        }
+        if b == CALL {
+            calls = with_call(calls, s[i + 1]);
+        }
+        w = next(ks, s, w);
+    }
+}
+
+// The pairs that the body at `at` records, where `rows` has the rows of the routines.
+pub fn recorded(ks: &[u8], s: &[u8], at: usize, rows: &[u8]) -> Grid
+    requires { ⌜ IsBody (now ks) (now s) at × (65 * length (now ks) ≤ length (now rows)) ⌝ }
+    ensures { λ r. ⌜ Records (now (ks .entry)) (now (s .entry)) at (now (rows .entry)) r ⌝ }
+{
+    let mut w = start(at);
+    let mut g = empty();
+    loop {
+        let i = w.at;
+        let b = s[i];
+        if over(b, w.top) {
+            return g;
+        }
+        if b == LOCK {
+            let t = locked(g, s, w);
+            g = t;
+        } else if b == CALL {
+            let t = called(g, ks, s, rows, w);
+            g = t;
+        }
+        w = next(ks, s, w);
+    }
+}

@@ -1,0 +1,4 @@
+-- The rows in a model buffer, what the functions on them leave, and the laws of rows.
+pub mod Model
+pub mod Added
+pub mod laws

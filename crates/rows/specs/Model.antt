@@ -1,0 +1,73 @@
+-- The rows of a model buffer, and what adding a closed grid to a row and clearing rows leave.
+use mathlib.Core.Path.{_≡_}
+use mathlib.Core.Logic.{_≢_, _⊎_}
+use mathlib.Core.Bool.{Bool, true, false}
+use mathlib.Core.List.{List, [], _∷_}
+use Prim.Native.Nat.{ℕ, _+_, _*_, _<_, _≤_}
+use lib.ListN.{getD, length}
+use Rattle.rules.specs.Label.{Label, own, forked, unknown, several, cut}
+use Rattle.rules.specs.laws.Satisfies.{Pairs}
+use Rattle.grid.specs.Rows.{Has}
+use Rattle.grid.specs.Grid.{Pair}
+
+-- a cell's byte has the label: 1 own, 2 unknown, 4 several
+abbrev pub Labelled : ℕ → Label → Type 0
+Labelled m own = Has m 0
+Labelled m (forked i) = ⊥
+Labelled m unknown = Has m 1
+Labelled m several = Has m 2
+
+-- the rows in a buffer: cell 8 * a + b of the row of routine r has the labels of (a, b)
+abbrev pub RowBits : List ℕ → Pairs
+RowBits rows r a b l = (a < 8) × (b < 8) × Labelled (getD rows (65 * r + 8 * a + b) 0) l
+
+-- the last byte of the row of routine r says that there is a ring
+abbrev pub RingByte : List ℕ → ℕ → Type 0
+RingByte rows r = getD rows (65 * r + 64) 0 ≡ 1
+
+-- the row of routine r: each cell has labels alone, and the last byte is 0 or 1
+pub record ShapedRow (rows : List ℕ) (r : ℕ) : Type 0 where
+  pub cells : (i : ℕ) → i < 64 → getD rows (65 * r + i) 0 < 8
+  pub last : getD rows (65 * r + 64) 0 ≤ 1
+
+-- the rows of the routines below n
+abbrev pub Shaped : ℕ → List ℕ → Type 0
+Shaped n rows = (r : ℕ) → r < n → ShapedRow rows r
+
+-- the row that a closed grid gives a routine of k parameters
+abbrev pub GridRow : ℕ → List (List ℕ) → ℕ → ℕ → Label → Type 0
+GridRow k g a b l = (m : Label) × Pair g a b m × (a ≤ k) × (b ≤ k) × (a ≢ b) × (l ≡ cut m)
+
+-- the grid has a ring
+abbrev pub HasRing : List (List ℕ) → Type 0
+HasRing g = (x : ℕ) × Pair g x x several
+
+-- the sum of the bytes: it rises with each bit that is added
+unfoldable pub total : List ℕ → ℕ
+total [] = 0
+total (b ∷ l) = b + total l
+
+-- what a flag tells: false, nothing changed; true, the sum rose
+abbrev pub Moves : Bool → List ℕ → List ℕ → Type 0
+Moves false before after = after ≡ before
+Moves true before after = total before < total after
+
+-- after is before with the row of the grid g, of a routine of k parameters, added to row r, and changed tells of it
+pub record RowAdded (before after : List ℕ) (r k : ℕ) (g : List (List ℕ)) (changed : Bool) : Type 0 where
+  pub long : length after ≡ length before
+  pub outside : (i : ℕ) → (i < 65 * r) ⊎ (65 * r + 65 ≤ i) → getD after i 0 ≡ getD before i 0
+  pub only : (q a b : ℕ) (l : Label)
+      → RowBits after q a b l → RowBits before q a b l ⊎ ((q ≡ r) × GridRow k g a b l)
+  pub old : (q a b : ℕ) (l : Label) → RowBits before q a b l → RowBits after q a b l
+  pub new : (a b : ℕ) (l : Label) → GridRow k g a b l → RowBits after r a b l
+  pub ring-only : (q : ℕ) → RingByte after q → RingByte before q ⊎ ((q ≡ r) × HasRing g)
+  pub ring-old : (q : ℕ) → RingByte before q → RingByte after q
+  pub ring-new : HasRing g → RingByte after r
+  pub shaped : (n : ℕ) → Shaped n before → Shaped n after
+  pub told : Moves changed before after
+
+-- after is before with the bytes below end zero
+pub record Cleared (end : ℕ) (before after : List ℕ) : Type 0 where
+  pub long : length after ≡ length before
+  pub zero : (i : ℕ) → i < end → getD after i 0 ≡ 0
+  pub rest : (i : ℕ) → end ≤ i → getD after i 0 ≡ getD before i 0

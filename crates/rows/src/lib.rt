@@ -1,0 +1,108 @@
+// Rows of the model buffer: adding the row of a closed grid, and clearing rows.
+ghost use Prim.Native.Nat.{_+_, _*_, _<_, _≤_};
+ghost use lib.ListN.{length};
+ghost use Rattle.grid.specs.Rows.{Bits};
+ghost use Rattle.rows.specs.Model.{ShapedRow, RowAdded, Cleared};
+ghost use Rattle.rows.specs.Added.{CellBit, AtByte, AtCell, AtRing, InRow, InGrid, Added};
+use grid::Grid;
+
+// The byte of a cell for a mask of label numbers: 1 own, 2 unknown or a fork, 4 several.
+fn cell_byte(m: u16) -> u8
+    ensures { λ r. ⌜ Bits r (CellBit m) ⌝ }
+{
+    let ends = m % 2 + 4 * ((m >> 10) % 2);
+    if (m >> 1) % 512 == 0 {
+        ends as u8
+    } else {
+        (ends + 2) as u8
+    }
+}
+
+// Adds the bits of v to byte i, and says whether that changed it.
+fn with_byte(model: &mut [u8], i: usize, v: u8) -> bool
+    requires { ⌜ i < length (now model) ⌝ }
+    ensures { λ r. ⌜ Added (AtByte i v) (now (model .entry)) (now (model .exit)) r ⌝ }
+{
+    let old = model[i];
+    let new = old | v;
+    if new == old {
+        return false;
+    }
+    model[i] = new;
+    true
+}
+
+// Adds the labels of m for the pair (a, b) to byte i, its cell, if the names differ.
+fn with_cell(model: &mut [u8], i: usize, a: usize, b: usize, m: u16) -> bool
+    requires { ⌜ i < length (now model) ⌝ }
+    ensures { λ r. ⌜ Added (AtCell i a b m) (now (model .entry)) (now (model .exit)) r ⌝ }
+{
+    if a == b {
+        return false;
+    }
+    if m == 0 {
+        return false;
+    }
+    let v = cell_byte(m);
+    with_byte(model, i, v)
+}
+
+// Adds the pairs from a to the names 0 to k, with the masks of row, to the cells of the row that begins at start.
+fn with_cells(model: &mut [u8], start: usize, a: usize, row: [u16; 16], k: usize) -> bool
+    requires { ⌜ (a ≤ 7) × (k ≤ 7) × (start + 64 ≤ length (now model)) ⌝ }
+    ensures { λ r. ⌜ Added (InRow start a row (k + 1)) (now (model .entry)) (now (model .exit)) r ⌝ }
+{
+    let mut changed = false;
+    for b in 0..k + 1 {
+        let more = with_cell(model, start + 8 * a + b, a, b, row[b]);
+        changed = changed | more;
+    }
+    changed
+}
+
+// Adds the pairs of the names 0 to k to the cells of the row that begins at start.
+fn with_pairs(model: &mut [u8], start: usize, g: Grid, k: usize) -> bool
+    requires { ⌜ (k ≤ 7) × (start + 64 ≤ length (now model)) ⌝ }
+    ensures { λ r. ⌜ Added (InGrid start g (k + 1) (k + 1)) (now (model .entry)) (now (model .exit)) r ⌝ }
+{
+    let mut changed = false;
+    for a in 0..k + 1 {
+        let row = g[a];
+        let more = with_cells(model, start, a, row, k);
+        changed = changed | more;
+    }
+    changed
+}
+
+// Sets byte i if the grid has a ring.
+fn with_ring(model: &mut [u8], i: usize, g: Grid) -> bool
+    requires { ⌜ i < length (now model) ⌝ }
+    ensures { λ r. ⌜ Added (AtRing i g) (now (model .entry)) (now (model .exit)) r ⌝ }
+{
+    let x = grid::ring_name(g);
+    if x == 16 {
+        return false;
+    }
+    with_byte(model, i, 1)
+}
+
+// Adds the row that the closed grid g gives a routine of k parameters to row r, and says whether that changed it.
+pub fn with_row(model: &mut [u8], r: usize, k: usize, g: Grid) -> bool
+    requires { ⌜ (k ≤ 7) × (65 * r + 65 ≤ length (now model)) × ShapedRow (now model) r ⌝ }
+    ensures { λ c. ⌜ RowAdded (now (model .entry)) (now (model .exit)) r k g c ⌝ }
+{
+    let start = 65 * r;
+    let pairs = with_pairs(model, start, g, k);
+    let ring = with_ring(model, start + 64, g);
+    pairs | ring
+}
+
+// Sets the bytes below end to zero.
+pub fn clear_rows(model: &mut [u8], end: usize)
+    requires { ⌜ end ≤ length (now model) ⌝ }
+    ensures { λ _. ⌜ Cleared end (now (model .entry)) (now (model .exit)) ⌝ }
+{
+    for i in 0..end {
+        model[i] = 0;
+    }
+}

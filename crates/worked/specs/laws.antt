@@ -1,0 +1,3 @@
+-- What is proved of the worked tables.
+pub mod Proved
+pub mod Answered

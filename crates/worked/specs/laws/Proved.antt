@@ -1,0 +1,187 @@
+-- Every worked table of document 01 is what its entry says: one test with what it proves, computed over the whole list.
+use mathlib.Core.Path.{_≡_, refl}
+use mathlib.Core.Bool.{Bool, true, false, cond, _&&_}
+use mathlib.Core.Logic.{inl, inr}
+use mathlib.Core.List.{List, [], _∷_}
+use Prim.Native.Nat.{ℕ, _+_, _*_, _<_}
+use native.Mathlib.Decide.{ℕ-discrete}
+use lib.Dec.{T, eqb, eqb→eq}
+use lib.ListN.{length, getD}
+use Rattle.table.specs.Program.{Program}
+use Rattle.table.specs.Check.{Outcome, refused, accepted, checkTable, blockBy, block}
+use Rattle.table.specs.WellFormed.{In}
+use Rattle.rules.specs.Label.{Label, own, unknown, several}
+use Rattle.rules.specs.Model.{Row, Ring}
+use Rattle.rules.specs.laws.Tests.{Decides, both, equal, itself, halves}
+use Rattle.rules.specs.laws.Lists.{Found, changed, alone, only, guarded, gather, gathered}
+use Rattle.rules.specs.laws.Lists.{member?, member, every?, every-at}
+use Rattle.rules.specs.laws.Table.{everyBelow, at-below, at-both}
+use Rattle.rules.specs.laws.Certificate.{Entry, entry, sameLabel?, same-label, modelOf, in-model, settled?, is-model}
+use Rattle.rules.specs.laws.Certificate.{rowLabels, is-row}
+use Rattle.rules.specs.laws.Judge.{clear?, is-clear, ringAt?, is-ring-at}
+use Rattle.analysis.specs.Answer.{row-bytes, row-names, Flag, Cell, Models, Says}
+use Rattle.analysis.specs.declared.Verdict.{Verdict}
+use Rattle.analysis.specs.declared.Verdict.the-variants.{Clear, Ring as RingOf}
+use Rattle.worked.specs.Cases.{CellByte, Case, rowsOf, Holds, cases}
+
+-- 1 where the test passes, else 0
+abbrev flagOf : Bool → ℕ
+flagOf b = cond b 1 0
+
+-- the flag of a test is the flag of what it decides
+is-flag : (b : Bool) {Q : Type 0} → Decides b Q → Flag (flagOf b) Q
+is-flag true d = inl (refl, d .fact tt)
+is-flag false d = inr (refl, d .test)
+
+-- whether a row's cell has the label
+abbrev labelled? : Program → ℕ → ℕ → ℕ → Label → Bool
+labelled? P r a b l = member? sameLabel? l (rowLabels P r a b)
+
+-- the test is passed by the labels of the row
+is-labelled :
+    (P : Program) → T (settled? P) → (r a b : ℕ) (l : Label) → Decides (labelled? P r a b l) (Row P r a b l)
+is-labelled P t r a b l =
+    let m = member sameLabel? same-label l (rowLabels P r a b) in
+    let f = is-row P t r a b l in
+    record { fact = λ x. f .fact (m .fact x); test = λ w. m .test (f .entry w) }
+
+-- the byte of a cell
+abbrev cellByte : Program → ℕ → ℕ → ℕ → ℕ
+cellByte P r a b =
+    flagOf (labelled? P r a b own) + 2 * flagOf (labelled? P r a b unknown) + 4 * flagOf (labelled? P r a b several)
+
+-- a byte that equals it is the cell of the rules
+is-cell : (P : Program) → T (settled? P) → (r a b v : ℕ) → T (eqb v (cellByte P r a b)) → Cell P r a b v
+is-cell P t r a b v e =
+    record {
+      one = flagOf (labelled? P r a b own);
+      two = flagOf (labelled? P r a b unknown);
+      four = flagOf (labelled? P r a b several);
+      sum = eqb→eq v (cellByte P r a b) e;
+      by-own = is-flag (labelled? P r a b own) (is-labelled P t r a b own);
+      by-unknown = is-flag (labelled? P r a b unknown) (is-labelled P t r a b unknown);
+      by-several = is-flag (labelled? P r a b several) (is-labelled P t r a b several);
+    }
+
+-- the name at which the entry is a ring of routine r
+abbrev ringOf : ℕ → Entry → List ℕ
+ringOf r (entry s a b m) = only (eqb s r && (eqb a b && sameLabel? m several)) (a ∷ [])
+
+-- the names at which routine r has a ring
+abbrev ringsOf : Program → ℕ → List ℕ
+ringsOf P r = gather (ringOf r) (modelOf P)
+
+-- they are the rings of the rules
+is-ring : (P : Program) → T (settled? P) → (r x : ℕ) → Found x (ringsOf P r) (Ring P r x)
+is-ring P t r x = changed (λ w. to (w .0) (w .1) (w .2)) from (gathered (modelOf P) is-at)
+  where
+    RingOfEntry : Entry → Type 0
+    RingOfEntry (entry s a b m) = ((s ≡ r) × ((a ≡ b) × (m ≡ several))) × (x ≡ a)
+
+    is-at : (e : Entry) → Found x (ringOf r e) (RingOfEntry e)
+    is-at (entry s a b m) = guarded (both (equal s r) (both (equal a b) (same-label m several))) (alone x a)
+
+    to : (e : Entry) → In e (modelOf P) → RingOfEntry e → Ring P r x
+    to (entry s a b m) i w =
+        rw (w .1) (rw (w .0 .0, ← w .0 .1 .0, w .0 .1 .1) at (in-model P (entry s a b m) i))
+
+    from : Ring P r x → (e : Entry) × In e (modelOf P) × RingOfEntry e
+    from ring = (entry r x x several, is-model P t r x x several .entry ring, ((refl, (refl, refl)), refl))
+
+-- whether there is an entry
+abbrev some? : List ℕ → Bool
+some? [] = false
+some? (x ∷ xs) = true
+
+-- an entry is something that the list stands for
+is-some : (xs : List ℕ) {Q : ℕ → Type 0} → ((x : ℕ) → Found x xs (Q x)) → Decides (some? xs) ((x : ℕ) × Q x)
+is-some [] f = record { fact = λ t. absurd t; test = λ w. f (w .0) .entry (w .1) }
+is-some (x ∷ xs) f = record { fact = λ t. (x, f x .fact (inl refl)); test = λ w. tt }
+
+-- cell (a, b) of row r in the buffer has the byte of the rules
+abbrev cellAgrees? : Program → List ℕ → ℕ → ℕ → ℕ → Bool
+cellAgrees? P model r a b = eqb (getD model (row-bytes * r + (row-names * a + b)) 0) (cellByte P r a b)
+
+-- so have all cells of row r
+abbrev cellsAgree? : Program → List ℕ → ℕ → Bool
+cellsAgree? P model r = everyBelow row-names (λ a. everyBelow row-names (cellAgrees? P model r a))
+
+-- the last byte of row r is 1 where the rules give a ring
+abbrev lastAgrees? : Program → List ℕ → ℕ → Bool
+lastAgrees? P model r = eqb (getD model (row-bytes * r + row-names * row-names) 0) (flagOf (some? (ringsOf P r)))
+
+-- all rows agree
+abbrev models? : Program → List ℕ → Bool
+models? P model = everyBelow (length P) (cellsAgree? P model) && everyBelow (length P) (lastAgrees? P model)
+
+-- rows that agree are those of the least model
+is-models : (P : Program) → T (settled? P) → (model : List ℕ) → T (models? P model) → Models P model
+is-models P t model m = record { cells = cell; last = ring }
+  where
+    w : T (everyBelow (length P) (cellsAgree? P model)) × T (everyBelow (length P) (lastAgrees? P model))
+    w = halves (everyBelow (length P) (cellsAgree? P model)) (everyBelow (length P) (lastAgrees? P model)) m
+
+    cell :
+        (r a b : ℕ) → r < length P → a < row-names → b < row-names
+        → Cell P r a b (getD model (row-bytes * r + (row-names * a + b)) 0)
+    cell r a b h i j =
+        is-cell P t r a b (getD model (row-bytes * r + (row-names * a + b)) 0)
+        (at-both row-names row-names (cellAgrees? P model r)
+        (at-below (length P) (cellsAgree? P model) (w .0) r h) a b i j)
+
+    ring :
+        (r : ℕ) → r < length P
+        → Flag (getD model (row-bytes * r + row-names * row-names) 0) ((x : ℕ) × Ring P r x)
+    ring r h =
+        rw (eqb→eq (getD model (row-bytes * r + row-names * row-names) 0) (flagOf (some? (ringsOf P r)))
+        (at-below (length P) (lastAgrees? P model) (w .1) r h))
+        (is-flag (some? (ringsOf P r)) (is-some (ringsOf P r) (is-ring P t r)))
+
+-- the verdict is the one that the rules give
+abbrev says? : Program → Verdict → Bool
+says? P Clear = clear? P
+says? P (RingOf ring) = ringAt? P (ring .routine) (ring .name)
+
+-- a verdict that passes is true
+is-said : (P : Program) (v : Verdict) → T (says? P v) → Says P v
+is-said P Clear t = is-clear P t
+is-said P (RingOf ring) t = is-ring-at P (ring .routine) (ring .name) t
+
+-- a cell of a case is the one that the rules give
+abbrev cell? : Program → CellByte → Bool
+cell? P s = eqb (s .byte) (cellByte P (s .routine) (s .a) (s .b))
+
+-- the test of a case, given what the check of its table comes to
+abbrev passes? : Case → Outcome → Bool
+passes? c (refused e) = false
+passes? c (accepted P) =
+    settled? P
+    && (says? P (c .verdict) && (every? (cell? P) (c .cells) && models? P (rowsOf (length P) c)))
+
+-- what the test proves
+passed : (c : Case) (o : Outcome) → checkTable (c .table) ≡ o → T (passes? c o) → Holds c
+passed c (accepted P) e t =
+    record {
+      program = P;
+      accepts = e;
+      says = is-said P (c .verdict) (w .1 .0);
+      cell = λ s i.
+          is-cell P (w .0) (s .routine) (s .a) (s .b) (s .byte) (every-at (cell? P) (c .cells) s (w .1 .1 .0) i);
+      models = is-models P (w .0) (rowsOf (length P) c) (w .1 .1 .1);
+    }
+  where
+    w :
+        T (settled? P) × (T (says? P (c .verdict))
+        × (T (every? (cell? P) (c .cells)) × T (models? P (rowsOf (length P) c))))
+    w =
+        both (itself (settled? P)) (both (itself (says? P (c .verdict)))
+        (both (itself (every? (cell? P) (c .cells))) (itself (models? P (rowsOf (length P) c))))) .fact t
+
+-- the test of a case, from its bytes
+abbrev holds? : Case → Bool
+holds? c = passes? c (checkTable (c .table))
+
+-- the one theorem: every worked table is what its entry says
+pub every-case : (c : Case) → In c cases → Holds c
+unfolding ℕ-discrete block blockBy
+every-case c i = passed c (checkTable (c .table)) refl (every-at holds? cases c tt i)

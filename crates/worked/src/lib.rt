@@ -1,0 +1,1 @@
+// The worked tables: definitions and theorems alone, no code.
