@@ -44,10 +44,11 @@ same-length c =
 returns : tie.Need-returns
 returns c =
     let a = c .before .before .before .before .before .before .before .before .before .before .before .args in
+    let k = c .before .before .before .before .before .before .size in
     λ P o. record {
       grid = c .before .before .before .before .worked-out .result;
       pairs = c .before .before .before .before .worked-out .ensures P (a .r) o;
-      added = added-by P (a .ks .now) (a .s .now) (a .at) (a .r) o (c .before .before .before .before .before .before .size .result) (c .before .before .before .before .before .before .size .ensures .0)
+      added = added-by P (a .ks .now) (a .s .now) (a .at) (a .r) o (k .result) (k .ensures .0)
           (c .before .before .with-row .ensures);
     }
 
