@@ -1,43 +1,26 @@
-/* launcher [--hex] FILE: judges one handler table, and prints `clear`, `ring` with the routine and the name, or `refused`
- * with the number. FILE may be - for standard input. Exit status: 0 clear, 1 ring, 2 refused, 3 trouble. */
+/* launcher [--hex] FILE: judges one handler table, and prints `clear`, `ring` with the routine and the name, or
+ * `refused` with the number; a ring or a refusal is told in words on standard error. FILE may be - for standard input,
+ * and with --hex it is hexadecimal text. Exit status: 0 clear, 1 ring, 2 refused, 3 trouble. */
+#include "refusals.h"
 #include "vangpear.h"
 
 #include <ctype.h>
 #include <errno.h>
 #include <stdbool.h>
 #include <stdio.h>
-#include <stdlib.h>
 #include <string.h>
 
-/* One byte more than the largest table: a longer file is refused for its length, whatever comes after. */
-#define READ_LIMIT 4164u
+/* One byte more than the largest table: a longer file is refused, whatever comes after. */
+#define TABLE_LIMIT 4164u
 
 /* Hexadecimal text may have spaces and comments: this many characters are plenty for a table. */
 #define TEXT_LIMIT (1u << 20)
 
 enum { CLEAR = 0, RING = 1, REFUSED = 2, TROUBLE = 3 };
 
-static const char *const ground[] = {
-    "",
-    "the table is empty",
-    "the routine count is 0 or above 64",
-    "the table ends before all parameter counts and the body count",
-    "a parameter count is above 7, or that of routine 0 is not 0",
-    "the body count is above 4,096",
-    "the bytes after the body count are more or fewer than it says",
-    "the section ends where a code is due",
-    "a code is above 06",
-    "an OTHER or an END stands where the other one is due",
-    "a seventeenth block would be open",
-    "a ninth NEW or a ninth FORK of one routine",
-    "the routine byte of a CALL is absent or names no routine",
-    "a name is absent or not in scope",
-    "bytes remain after the last body",
-};
-
-static int trouble(const char *what, const char *name)
+static int trouble(const char *name, const char *what)
 {
-    fprintf(stderr, "vangpear: %s: %s\n", name, what);
+    fprintf(stderr, "launcher: %s: %s\n", name, what);
     return TROUBLE;
 }
 
@@ -72,43 +55,66 @@ static long from_hex(uint8_t *text, size_t length)
     return bytes;
 }
 
-int main(int argc, char **argv)
+/* Reads at most `limit` bytes of a file. Gives how many there were, or -1 with errno set. */
+static long read_file(const char *name, uint8_t *bytes, size_t limit)
 {
-    bool hex = argc == 3 && strcmp(argv[1], "--hex") == 0;
-    if (argc != 2 + hex) {
-        fputs("usage: vangpear [--hex] FILE (FILE may be - for standard input)\n", stderr);
-        return TROUBLE;
-    }
-    const char *name = argv[1 + hex];
     FILE *file = strcmp(name, "-") == 0 ? stdin : fopen(name, "rb");
-    if (file == NULL) return trouble(strerror(errno), name);
-    size_t limit = hex ? TEXT_LIMIT : READ_LIMIT;
-    uint8_t *table = malloc(limit);
-    if (table == NULL) return trouble("no memory", name);
-    size_t length = fread(table, 1, limit, file);
-    if (ferror(file)) return trouble(strerror(errno), name);
-    if (hex) {
-        if (length == limit) return trouble("the text is longer than any table", name);
-        long bytes = from_hex(table, length);
-        if (bytes < 0) return trouble("not hexadecimal text: two digits to a byte", name);
-        length = (size_t)bytes;
-    }
+    if (file == NULL) return -1;
+    errno = 0;
+    size_t length = fread(bytes, 1, limit, file);
+    int error = ferror(file) ? errno : 0;
+    if (file != stdin) fclose(file);
+    errno = error;
+    return error == 0 ? (long)length : -1;
+}
+
+/* Prints a ring. The routine's parameters are its first names, its NEW items in written order the ones after them. */
+static void print_ring(const uint8_t *table, unsigned routine, unsigned name)
+{
+    static const char *const ordinals[] = {"first", "second", "third", "fourth", "fifth", "sixth", "seventh", "eighth"};
+    unsigned parameters = table[1 + routine];
+    bool parameter = name <= parameters;
+    printf("ring %u %u\n", routine, name);
+    fputs("launcher: threads may come to wait for each other in a circle, at ", stderr);
+    fprintf(stderr, "the %s %s of routine %u (name %u)\n", ordinals[(parameter ? name : name - parameters) - 1],
+            parameter ? "parameter" : "NEW", routine, name);
+}
+
+/* Analyses a table, prints the verdict, and gives the exit status. */
+static int judge(const uint8_t *table, size_t length)
+{
     uint8_t model[VANGPEAR_MODEL];
     uint32_t answer = vangpear_analyse(table, length, model, sizeof model);
-    free(table);
-    if (file != stdin) fclose(file);
     if (answer == 0) {
         puts("clear");
         return CLEAR;
     }
-    if (answer < VANGPEAR_RING) {
-        printf("refused %u\n", (unsigned)answer);
-        fprintf(stderr, "vangpear: %s\n", ground[answer]);
-        return REFUSED;
+    if (answer >= VANGPEAR_RING) {
+        print_ring(table, VANGPEAR_RING_ROUTINE(answer), VANGPEAR_RING_NAME(answer));
+        return RING;
     }
-    unsigned routine = VANGPEAR_RING_ROUTINE(answer), lock = VANGPEAR_RING_NAME(answer);
-    printf("ring %u %u\n", routine, lock);
-    fprintf(stderr, "vangpear: in routine %u two or more threads may wait for each other at the lock of name %u\n", routine,
-            lock);
-    return RING;
+    printf("refused %u\n", (unsigned)answer);
+    fprintf(stderr, "launcher: refused: %s\n", vangpear_refusals[answer]);
+    return REFUSED;
+}
+
+int main(int argc, char **argv)
+{
+    static uint8_t bytes[TEXT_LIMIT + 1];
+    bool hex = argc == 3 && strcmp(argv[1], "--hex") == 0;
+    if (argc != 2 + hex) {
+        fputs("launcher: usage: launcher [--hex] FILE (FILE may be - for standard input)\n", stderr);
+        return TROUBLE;
+    }
+    const char *name = argv[1 + hex];
+    long length = read_file(name, bytes, hex ? sizeof bytes : TABLE_LIMIT);
+    if (length < 0) return trouble(name, strerror(errno));
+    if (hex) {
+        if (length > (long)TEXT_LIMIT) return trouble(name, "the text is longer than any table needs");
+        length = from_hex(bytes, (size_t)length);
+        if (length < 0) return trouble(name, "this is not hexadecimal text, two digits to a byte");
+    }
+    int status = judge(bytes, (size_t)length);
+    if (fflush(stdout) != 0) return trouble("standard output", strerror(errno));
+    return status;
 }

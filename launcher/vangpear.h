@@ -1,9 +1,10 @@
 /* Vangpear: whether a handler table is accepted, and whether its threads can wait for each other's locks.
  * C11, usable from C++.
  *
- * Link with the archive that `rt staticlib analysis` writes, target/staticlib/libanalysis.a. The calls keep no state, take
- * no memory of their own, use less than 64 KiB of stack, write nothing but what is said here, and are proved to end for
- * every input. Two calls may run at the same time on different model buffers. */
+ * Link with the archive that `rt staticlib analysis` writes, target/staticlib/libanalysis.a. The calls keep no state,
+ * take no memory of their own, use less than 64 KiB of stack, write nothing but what is said here, and are proved to
+ * end for every input. Two calls may run at the same time on different model buffers. What each refusal's number means
+ * is in refusals.h. */
 #ifndef VANGPEAR_H
 #define VANGPEAR_H
 
@@ -31,9 +32,9 @@ extern "C" {
 uint32_t vangpear_check(const uint8_t *table, size_t length);
 
 /* Analyses the table as vangpear_check takes it. Gives 0 for clear, VANGPEAR_RING and more for a ring, or the refusal's
- * number: 1 to 14, or 15 where the `size` bytes at `model` are fewer than VANGPEAR_ROW for each routine. A refusal leaves
- * the buffer as it was; otherwise its first VANGPEAR_ROW * routines bytes are the rows of the model, and those after them
- * are as they were. `table` and `model` must not overlap. */
+ * number: 1 to 14, or 15 where the `size` bytes at `model` are fewer than VANGPEAR_ROW for each routine. A refusal
+ * leaves the buffer as it was; otherwise its first VANGPEAR_ROW * routines bytes are the rows of the model, and those
+ * after them are as they were. `table` and `model` must not overlap. */
 uint32_t vangpear_analyse(const uint8_t *table, size_t length, uint8_t *model, size_t size);
 
 #ifdef __cplusplus

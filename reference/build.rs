@@ -1,4 +1,4 @@
-//! Hands the archive to the linker, for the binary `compare` alone.
+//! Hands the archive to the linker, for the binaries `compare` and `bench` alone.
 //!
 //! VANGPEAR_ARCHIVE_DIR is the archive's folder, VANGPEAR_ARCHIVE its name
 //! without `lib` and `.a`. Nothing is linked unless the feature `archive` is on.
@@ -21,10 +21,12 @@ fn main() {
             let archive = Path::new(&folder).join(format!("lib{name}.a"));
             let archive = archive.canonicalize().unwrap_or(archive);
             println!("cargo:rerun-if-changed={}", archive.display());
-            println!("cargo:rustc-link-arg-bin=compare={}", archive.display());
+            for binary in ["compare", "bench"] {
+                println!("cargo:rustc-link-arg-bin={binary}={}", archive.display());
+            }
         }
         _ => println!(
-            "cargo:warning=VANGPEAR_ARCHIVE_DIR and VANGPEAR_ARCHIVE are not both set, so compare will not link"
+            "cargo:warning=VANGPEAR_ARCHIVE_DIR and VANGPEAR_ARCHIVE are not both set, so nothing will link"
         ),
     }
 }

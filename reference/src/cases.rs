@@ -1,7 +1,8 @@
-//! Document 01's worked cases, and a table for each of its rules.
+//! Document 01's cases, and a table for each of its rules.
 
 use crate::generate::assemble;
 use crate::limits::code::*;
+use crate::limits::ROW_BYTES;
 use crate::{hex, Answer};
 
 /// A table with the verdict it must get.
@@ -81,6 +82,80 @@ pub fn worked() -> Vec<Case> {
         answer,
     })
     .collect()
+}
+
+/// A table with a model buffer's length, and the answer it must get.
+pub struct Limit {
+    pub name: &'static str,
+    pub table: Vec<u8>,
+    pub buffer: usize,
+    pub answer: Answer,
+}
+
+/// The cases that are not worked ones: both sides of the limits on open blocks,
+/// NEW and the model buffer.
+pub fn limits() -> Vec<Limit> {
+    // A routine 1 with one parameter that opens `depth` blocks, one in another.
+    let nested = |open: &[u8], close: &[u8], depth: usize| {
+        let section = [
+            &[END],
+            &open.repeat(depth)[..],
+            &close.repeat(depth),
+            &[END],
+        ]
+        .concat();
+        assemble(&[0, 1], &section)
+    };
+    let locks = |depth| nested(&[LOCK, 1], &[END], depth);
+    let firsts = |depth| nested(&[CHOICE], &[OTHER, END], depth);
+    let seconds = |depth| nested(&[CHOICE, OTHER], &[END], depth);
+    let news = |count| assemble(&[0], &[vec![NEW; count], vec![END]].concat());
+
+    let mut all = Vec::new();
+    let mut put = |name, table: Vec<u8>, per_routine: usize, answer| {
+        all.push(Limit {
+            name,
+            buffer: per_routine * table[0] as usize,
+            table,
+            answer,
+        });
+    };
+    let refused = Answer::Refused;
+    put("16 lock blocks", locks(16), ROW_BYTES, Answer::Clear);
+    put("17 lock blocks", locks(17), ROW_BYTES, refused(10));
+    put(
+        "16 first alternatives",
+        firsts(16),
+        ROW_BYTES,
+        Answer::Clear,
+    );
+    put("17 first alternatives", firsts(17), ROW_BYTES, refused(10));
+    put(
+        "16 second alternatives",
+        seconds(16),
+        ROW_BYTES,
+        Answer::Clear,
+    );
+    put(
+        "17 second alternatives",
+        seconds(17),
+        ROW_BYTES,
+        refused(10),
+    );
+    put("8 NEW", news(8), ROW_BYTES, Answer::Clear);
+    put("9 NEW", news(9), ROW_BYTES, refused(11));
+    for case in worked() {
+        put(case.name, case.table.clone(), ROW_BYTES, case.answer);
+        put(case.name, case.table, ROW_BYTES - 1, refused(15));
+    }
+    // A table that is refused otherwise is not refused for its buffer.
+    put(
+        "17 lock blocks, short buffer",
+        locks(17),
+        ROW_BYTES - 1,
+        refused(10),
+    );
+    all
 }
 
 /// Tables that come out otherwise where one rule is read otherwise.

@@ -2,10 +2,17 @@
 //!
 //! It is kept plain, to be compared against, not to be fast:
 //! `table` reads and refuses, `model` works out pairs, rows and the verdict,
-//! `listing` is the program's text. `cases` and `generate` give tables to try.
+//! `listing` is the program's text. `cases` and `generate` give tables to try,
+//! `frames` puts many of them into one input. `fast` and `groups` are there for
+//! the benchmark alone, and `archive` calls what is under test.
 
+#[cfg(feature = "archive")]
+pub mod archive;
 pub mod cases;
+pub mod fast;
+pub mod frames;
 pub mod generate;
+pub mod groups;
 pub mod hex;
 pub mod limits;
 mod listing;
@@ -13,7 +20,7 @@ pub mod model;
 pub mod table;
 
 use limits::{refusal, CHECK_ROUTINE, RING_BASE, RING_NAME, RING_ROUTINE, ROW_BYTES};
-pub use listing::listing;
+pub use listing::{listing, listing_with};
 
 /// What the analysis says of a table.
 #[derive(Clone, Copy, Debug, PartialEq, Eq)]

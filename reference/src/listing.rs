@@ -5,7 +5,12 @@ use crate::{analyse, check, Answer};
 
 /// The lines printed for a table, each ended by 0A.
 pub fn listing(table: &[u8]) -> Vec<u8> {
-    let mut model = [0; ROW_BYTES * MAX_ROUTINES];
+    listing_with(table, ROW_BYTES * MAX_ROUTINES)
+}
+
+/// The same where the model buffer has `size` bytes.
+pub fn listing_with(table: &[u8], size: usize) -> Vec<u8> {
+    let mut model = vec![0; size];
     let last = match analyse(table, &mut model) {
         // A refused table prints this line alone.
         Answer::Refused(number) => return format!("refused {number}\n").into_bytes(),

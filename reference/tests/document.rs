@@ -1,6 +1,6 @@
 //! Document 01's cases, refusals and rules, one test for each.
 
-use reference::cases::{rules, worked};
+use reference::cases::{limits, rules, worked};
 use reference::generate::{assemble, random};
 use reference::hex;
 use reference::limits::code::*;
@@ -93,6 +93,21 @@ fn case_h_has_its_row_1() {
 fn case_i_has_unknown_pairs_in_its_row_1() {
     let table = case("i-called-fork-one-lock-twice");
     assert_eq!(row(&table, 1), (vec![(1, 2, 2), (1, 3, 2), (2, 3, 2)], 0));
+}
+
+// The cases on either side of a limit.
+
+#[test]
+fn cases_at_limits_get_their_answers() {
+    for case in limits() {
+        let mut buffer = vec![FILLER; case.buffer];
+        assert_eq!(
+            analyse(&case.table, &mut buffer),
+            case.answer,
+            "{}",
+            case.name
+        );
+    }
 }
 
 // The refusals, one table for each; `generate` has many more.

@@ -6,7 +6,8 @@ use native.Mathlib.Omega.{arith}
 use lib.ListN.{length}
 use Rattle.table.specs.Program.{Program}
 use Rattle.table.specs.Check.{refused, accepted, checkTable}
-use Rattle.analysis.specs.Answer.{row-bytes, short-buffer, JudgedAs, Analysed, Short, Fits}
+use Rattle.table.specs.Constants.{row-bytes}
+use Rattle.analysis.specs.Answer.{short-buffer, JudgedAs, Analysed, Short, Fits}
 use Rattle.analysis.specs.declared.RingPlace.{RingPlace}
 use Rattle.analysis.specs.declared.Verdict.{Verdict}
 use Rattle.analysis.specs.declared.Verdict.the-variants.{Ring}

@@ -1,18 +1,19 @@
 -- Laws of due routines: a turn of each loop of `due.rt`.
-use mathlib.Core.Path.{_≡_, refl, sym, ap, _∙_}
-use mathlib.Core.Logic.{_⊎_, inl, inr, ⊎-elim}
+use mathlib.Core.Path.{_≡_, refl, ap, _∙_}
+use mathlib.Core.Logic.{_≢_, _⊎_, inl, inr, ⊎-elim}
 use mathlib.Core.List.{List}
-use Prim.Native.Nat.{ℕ, _+_, _*_, _%_, _^_, _≤_, _<_}
+use Prim.Native.Nat.{ℕ, zero, suc, _+_, _-_, _*_, _%_, _^_, _≤_, _<_}
 use native.Mathlib.Omega.{arith}
 use native.Mathlib.Decide.{ℕ-discrete}
-use lib.ListN.{length, getD}
+use lib.ListN.{length, getD, set, length-set, replicate}
+use lib.Seq.{getD-set-same, getD-set-other}
+use lib.Bits.{bitOr, or-lt}
+use lib.Pow.{pow-pos, pow-lt}
 use Rattle.table.specs.laws.ScopeMask.{grows, shift-one}
 use Rattle.grid.specs.Rows.{Has, Bits}
-use Rattle.grid.specs.laws.Masks.{has-zero}
-use Rattle.rows.specs.Model.{RingByte}
-use Rattle.analysis.specs.laws.Reach.{CallBit}
-use Rattle.analysis.specs.laws.Due.{All, Callers}
-use Rattle.analysis.proofs.MaskLaws.{top-below, add-top}
+use Rattle.grid.specs.laws.Masks.{has-zero, has-below, has-left, has-right, has-pow}
+use Rattle.analysis.specs.laws.Due.{Highest, All, Below, CallerAdded, Callers}
+use Rattle.analysis.proofs.MaskLaws.{top-below, add-top, has-top, less-bit}
 
 pub all-none : All 0 0
 all-none = record {
@@ -39,74 +40,130 @@ all-turn r m l b = rw (shift-one r l) next
         step p x (yes e) = inl e
         step p x (no n) = inr (b .bits .from p (omega arith))
 
-module _ (calls : List ℕ) (q : ℕ) where
-  -- m has the routines below r that call q
-  pub record Before (r m : ℕ) : Type 0 where
-    pub bits : Bits m (λ p. (p < r) × CallBit calls p q)
-    pub below : m < 2 ^ r
+-- masks below 2 ^ r are below 2 ^ (r + 1), and so they are with r
+wider : (r m : ℕ) → m < 2 ^ r → m < 2 ^ (r + 1)
+wider r m l = let g : 2 ^ r ≤ 2 ^ (r + 1) = grows r (r + 1) (omega arith) in omega arith
 
-  pub none-before : Before 0 0
-  none-before = record {
-    bits = record { to = λ p h. absurd (has-zero p h); from = λ p h. absurd (let l : p < 0 = h .0 in omega arith) };
-    below = omega arith;
+with-r : (r m : ℕ) → m < 2 ^ (r + 1) → bitOr m (2 ^ r) < 2 ^ (r + 1)
+with-r r m l = or-lt (r + 1) m (2 ^ r) l (pow-lt (omega arith))
+
+module _ (before : List ℕ) (mask r : ℕ) where
+  -- routine r was added to the callers of the routines of the mask, but for those that are left
+  pub record Adding (after : List ℕ) (left : ℕ) : Type 0 where
+    pub old : (q p : ℕ) → Has (getD before q 0) p → Has (getD after q 0) p
+    pub new : (q : ℕ) → Has mask q → Has left q ⊎ Has (getD after q 0) r
+    pub below : Below after (r + 1)
+    pub less : left ≤ mask
+
+  pub adding-none : Below before r → Adding before mask
+  adding-none b = record {
+    old = λ q p h. h;
+    new = λ q h. inl h;
+    below = (b .0, λ q. wider r (getD before q 0) (b .1 q));
+    less = omega arith;
   }
 
-  wider : (r m n : ℕ) → m < 2 ^ r → m < 2 ^ (r + 1)
-  wider r m n l = let g : 2 ^ r ≤ 2 ^ (r + 1) = grows r (r + 1) (omega arith) in omega arith
+  pub adding-done : (after : List ℕ) (left : ℕ) → left ≡ 0 → Adding after left → CallerAdded before mask r after
+  adding-done after left e a = record {
+    old = a .old;
+    new = λ q h. ⊎-elim (λ x. absurd (has-zero q (rw e at x))) (λ x. x) (a .new q h);
+    below = a .below;
+  }
 
-  pub calls-turn : (r m n : ℕ) → r < length calls → length calls ≤ 64 → Has (getD calls r 0) q → Before r m
-      → n ≡ m + (1 * 2 ^ r) % 18446744073709551616 → Before (r + 1) n
-  calls-turn r m n l few h b e = rw e (rw (shift-one r (omega arith)) next)
+  -- a turn, for routine q of those that are left
+  module _ (small : r < 64) (fits : mask < 2 ^ 64) (after : List ℕ) (left q : ℕ) (a : Adding after left)
+      (top : Highest left q) where
+    bit : Has left q
+    bit = has-top left q top
+
+    pub inside : q < 64
+    inside = let l = a .less in has-below left 64 q (omega arith) bit
+
+    there : q < length after
+    there = let i = inside in let l = a .below .0 in omega arith
+
+    pub taken : (1 * 2 ^ q) % 18446744073709551616 ≤ left
+    taken = rw (shift-one q inside) (top .low)
+
+    abbrev rest : ℕ
+    rest = left - (1 * 2 ^ q) % 18446744073709551616
+
+    rest-is : rest ≡ left - 2 ^ q
+    rest-is = ap (λ (v : ℕ). left - v) (shift-one q inside)
+
+    abbrev next : List ℕ
+    next = set after q (bitOr (getD after q 0) ((1 * 2 ^ r) % 18446744073709551616))
+
+    here : getD next q 0 ≡ bitOr (getD after q 0) (2 ^ r)
+    here = getD-set-same after q _ 0 there ∙ ap (bitOr (getD after q 0)) (shift-one r small)
+
+    other : (p : ℕ) → p ≢ q → getD next p 0 ≡ getD after p 0
+    other p n = getD-set-other after q p _ 0 n
+
+    pub rest-less : rest < left
+    rest-less = let l = top .low in let k = pow-pos q in rw rest-is (omega arith)
+
+    pub adding-turn : Adding next rest
+    adding-turn = record {
+      old = λ p i h. kept p i (a .old p i h) (ℕ-discrete p q);
+      new = λ p h. told p (a .new p h) (ℕ-discrete p q);
+      below = (length-set after q _ ∙ a .below .0, λ p. low p (ℕ-discrete p q));
+      less = let l = a .less in let k = rest-less in omega arith;
+    }
+      where
+        kept : (p i : ℕ) → Has (getD after p 0) i → Dec (p ≡ q) → Has (getD next p 0) i
+        kept p i h (yes e) = rw (e, here) (has-left (getD after q 0) (2 ^ r) i (rw e at h))
+        kept p i h (no n) = rw (other p n) h
+
+        told : (p : ℕ) → Has left p ⊎ Has (getD after p 0) r → Dec (p ≡ q) → Has rest p ⊎ Has (getD next p 0) r
+        told p h (yes e) = inr (rw (e, here) (has-right (getD after q 0) (2 ^ r) r (has-pow r)))
+        told p (inl h) (no n) = inl (rw rest-is (less-bit left q bit .from p (n, h)))
+        told p (inr h) (no n) = inr (rw (other p n) h)
+
+        low : (p : ℕ) → Dec (p ≡ q) → getD next p 0 < 2 ^ (r + 1)
+        low p (yes e) = rw (e, here) (with-r r (getD after q 0) (a .below .1 q))
+        low p (no n) = rw (other p n) (a .below .1 p)
+
+-- no caller is known
+pub no-callers : Below (replicate 64 0) 0
+no-callers = (refl, λ q. let e = none 64 q in omega arith)
+  where
+    none : (n q : ℕ) → getD {A = ℕ} (replicate n 0) q 0 ≡ 0
+    none zero q = refl
+    none (suc n) zero = refl
+    none (suc n) (suc q) = none n q
+
+module _ (calls : List ℕ) where
+  -- the calls of the routines below r were turned round
+  pub record Turned (callers : List ℕ) (r : ℕ) : Type 0 where
+    pub told : (p q : ℕ) → p < r → Has (getD calls p 0) q → Has (getD callers q 0) p
+    pub below : Below callers r
+    pub within : r ≤ length calls
+
+  pub turned-none : (callers : List ℕ) → Below callers 0 → Turned callers 0
+  turned-none callers b = record {
+    told = λ p q k h. absurd (omega arith);
+    below = b;
+    within = omega arith;
+  }
+
+  pub turned-turn : (callers after : List ℕ) (r : ℕ) → r < length calls → Turned callers r
+      → CallerAdded callers (getD calls r 0) r after → Turned after (r + 1)
+  turned-turn callers after r l t a = record {
+    told = λ p q k h. step p q k h (ℕ-discrete p r);
+    below = a .below;
+    within = omega arith;
+  }
     where
-      one : Bits (m + 2 ^ r) (λ j. (j ≡ r) ⊎ Has m j)
-      one = add-top m r (b .below)
+      step : (p q : ℕ) → p < r + 1 → Has (getD calls p 0) q → Dec (p ≡ r) → Has (getD after q 0) p
+      step p q k h (yes e) = rw e (a .new q (rw e at h))
+      step p q k h (no n) = a .old q p (t .told p q (omega arith) h)
 
-      next : Before (r + 1) (m + 2 ^ r)
-      next = record {
-        bits = record {
-          to = λ p x. ⊎-elim (λ z. rw z (omega arith, (l, h)))
-              (λ y. let k = b .bits .to p y in ((let g : p < r = k .0 in omega arith), k .1)) (one .to p x);
-          from = λ p x. one .from p (step p x (ℕ-discrete p r));
-        };
-        below = top-below m r (b .below);
-      }
-        where
-          step : (p : ℕ) → (p < r + 1) × CallBit calls p q → Dec (p ≡ r) → (p ≡ r) ⊎ Has m p
-          step p x (yes z) = inl z
-          step p x (no z) = inr (b .bits .from p ((let g : p < r + 1 = x .0 in omega arith), x .1))
-
-  pub other-turn : (r m n : ℕ) → (Has (getD calls r 0) q → ⊥) → Before r m → n ≡ m → Before (r + 1) n
-  other-turn r m n h b e = rw e (record {
-    bits = record {
-      to = λ p x. let k = b .bits .to p x in ((let g : p < r = k .0 in omega arith), k .1);
-      from = λ p x. step p x (ℕ-discrete p r);
-    };
-    below = wider r m n (b .below);
-  })
-    where
-      step : (p : ℕ) → (p < r + 1) × CallBit calls p q → Dec (p ≡ r) → Has m p
-      step p x (yes z) = absurd (h (rw z at (x .1 .1)))
-      step p x (no z) = b .bits .from p ((let g : p < r + 1 = x .0 in omega arith), x .1)
-
-  pub all-before : (r m : ℕ) → length calls ≤ r → r ≤ length calls → Before r m → Callers calls q m
-  all-before r m l k b =
+  pub turned-all : (callers : List ℕ) (r : ℕ) → length calls ≤ r → Turned callers r → Callers calls callers
+  turned-all callers r l t =
+      let w = t .within in
       let e : r ≡ length calls = omega arith in
       record {
-        bits = record {
-          to = λ p x. b .bits .to p x .1;
-          from = λ p x. b .bits .from p ((let g : p < length calls = x .0 in omega arith), x);
-        };
-        below = rw e at (b .below);
+        told = λ p q h. t .told p q (let k : p < length calls = h .0 in omega arith) (h .1);
+        below = rw e at (t .below);
       }
-
-module _ (model : List ℕ) (mask : ℕ) where
-  -- no routine of the mask below r tells of a ring
-  abbrev pub NoneBelow : ℕ → Type 0
-  NoneBelow r = (q : ℕ) → q < r → Has mask q → RingByte model q → ⊥
-
-  pub none-more : (r : ℕ) → NoneBelow r → (Has mask r → RingByte model r → ⊥) → NoneBelow (r + 1)
-  none-more r n k q l = step (ℕ-discrete q r)
-    where
-      step : Dec (q ≡ r) → Has mask q → RingByte model q → ⊥
-      step (yes e) = rw e k
-      step (no z) = n q (omega arith)

@@ -1,14 +1,16 @@
--- Masks as numbers: a new highest bit is added as its power of two, and taken off in the same way.
-use mathlib.Core.Path.{_≡_, refl, sym, ap, _∙_}
-use mathlib.Core.Logic.{_≢_, _⊎_, inl, inr, ⊎-elim}
+-- Masks as numbers: a new highest bit is added as its power of two, and any bit is taken off in the same way.
+use mathlib.Core.Path.{_≡_, sym, ap, _∙_}
+use mathlib.Core.Logic.{_≢_, _⊎_, inl, inr}
 use Prim.Native.Nat.{ℕ, suc, _+_, _-_, _*_, _/_, _%_, _^_, _≤_, _<_}
-use native.Mathlib.Nat.{div-eq-of-lt, div-eq-of-lt-le, lt-div-mul-add, zero-mul}
+use native.Mathlib.Nat.{div-eq-of-lt, div-eq-of-lt-le, div-eq-sub-div, mod-lt}
 use native.Mathlib.Omega.{arith}
-use native.Mathlib.Decide.{decLt, ℕ-discrete}
-use lib.Bits.{bitOr, or-lt}
+use native.Mathlib.Decide.{decLt}
+use lib.Count.{leadingZeros, leading-top}
+use lib.Pow.{pow-pos, field, mod-mod-pow, shr-shr}
 use Rattle.table.specs.laws.ScopeMask.{grows, double, lower, shift-one}
 use Rattle.grid.specs.Rows.{Has, Bits}
-use Rattle.grid.specs.laws.Masks.{has-below, has-left, has-right, has-or}
+use Rattle.grid.specs.laws.Masks.{has-below}
+use Rattle.analysis.specs.laws.Due.{Highest}
 
 next-power : (r : ℕ) → 2 ^ (r + 1) ≡ 2 ^ r + 2 ^ r
 next-power r = let e : r + 1 ≡ suc r = omega arith in ap (λ (v : ℕ). 2 ^ v) e ∙ double r
@@ -46,33 +48,84 @@ top-fits m r l k =
     let g : 2 ^ (r + 1) ≤ 2 ^ 64 = grows (r + 1) 64 (omega arith) in
     rw (shift-one r k) (omega arith)
 
--- a mask less its highest bit
-module _ (m r : ℕ) (low : 2 ^ r ≤ m) (high : m < 2 ^ (r + 1)) where
-  pub less-below : m - 2 ^ r < 2 ^ r
-  less-below = let e = next-power r in omega arith
+-- the highest bit is one of the mask
+pub has-top : (m r : ℕ) → Highest m r → Has m r
+has-top m r h =
+    let e = next-power r in
+    let low = h .low in
+    let high = h .high in
+    let q : m / 2 ^ r ≡ 1 = div-eq-of-lt-le (2 ^ r) (omega arith) (omega arith) in
+    rw q
 
-  again : m - 2 ^ r + 2 ^ r ≡ m
-  again = omega arith
+-- and is found by the zeros above it
+module _ (m : ℕ) (some : 0 < m) (fits : m < 2 ^ 64) where
+  top : (j : ℕ) × (leadingZeros 64 m + suc j ≡ 64) × (2 ^ j ≤ m) × (m < 2 ^ suc j)
+  top = leading-top 64 m some fits
 
-  whole : Bits m (λ j. (j ≡ r) ⊎ Has (m - 2 ^ r) j)
-  whole = rw again at (add-top (m - 2 ^ r) r less-below)
+  pub few-zeros : leadingZeros 64 m ≤ 63
+  few-zeros = let e = top .1 in omega arith
 
-  pub has-top : Has m r
-  has-top = whole .from r (inl refl)
+  pub highest-at : Highest m (63 - leadingZeros 64 m)
+  highest-at =
+      let z = top .1 in
+      let e : 63 - leadingZeros 64 m ≡ top .0 = omega arith in
+      let f : top .0 + 1 ≡ suc (top .0) = omega arith in
+      rw e (record { low = top .2; high = rw f (top .3) })
 
-  pub less-top : Bits (m - 2 ^ r) (λ j. (j ≢ r) × Has m j)
-  less-top = record {
-    to = λ j h. ((λ e. let p : j < r = has-below (m - 2 ^ r) r j less-below h in omega arith), whole .from j (inr h));
-    from = λ j h. ⊎-elim (λ e. absurd (h .0 e)) (λ x. x) (whole .to j (h .1));
+-- a bit of the part of a mask below a place is one of the mask
+has-part : (m n r : ℕ) → Has (m % 2 ^ n) r → Has m r
+has-part m n r h =
+    let l : r < n = has-below (m % 2 ^ n) n r (mod-lt m (pow-pos n)) h in
+    let e : n ≡ (n - r - 1) + 1 + r = omega arith in
+    let f : m % 2 ^ ((n - r - 1) + 1 + r) / 2 ^ r ≡ m / 2 ^ r % 2 ^ ((n - r - 1) + 1) = field m ((n - r - 1) + 1) r in
+    let g : m / 2 ^ r % 2 ^ ((n - r - 1) + 1) % 2 ^ 1 ≡ m / 2 ^ r % 2 ^ 1 = mod-mod-pow (m / 2 ^ r) (n - r - 1) 1 in
+    let k : m % 2 ^ n / 2 ^ r ≡ m / 2 ^ r % 2 ^ ((n - r - 1) + 1) =
+    ap (λ (v : ℕ). m % 2 ^ v / 2 ^ r) e ∙ f in
+    sym g ∙ ap (λ (v : ℕ). v % 2) (sym k) ∙ h
+
+-- the part below a place, as code divides by `1 << n`
+pub some-shift : (n : ℕ) → n < 64 → 0 < (1 * 2 ^ n) % 18446744073709551616
+some-shift n l = rw (shift-one n l) (pow-pos n)
+
+pub has-below-shift : (m n r : ℕ) → n < 64 → Has (m % ((1 * 2 ^ n) % 18446744073709551616)) r → Has m r
+has-below-shift m n r l h = has-part m n r (rw (shift-one n l) at h)
+
+-- a mask less one of its bits
+module _ (m r : ℕ) (h : Has m r) where
+  pub bit-within : 2 ^ r ≤ m
+  bit-within = elim (decLt m (2 ^ r)) [
+    | yes p ↦ let z : m / 2 ^ r ≡ 0 = div-eq-of-lt p in absurd (omega arith)
+    | no p ↦ omega arith
+  ]
+
+  again : 2 ^ r + (m - 2 ^ r) ≡ m
+  again = let l = bit-within in omega arith
+
+  down : m / 2 ^ r ≡ (m - 2 ^ r) / 2 ^ r + 1
+  down = div-eq-sub-div (pow-pos r) bit-within
+
+  -- a place above r
+  abbrev place : ℕ → ℕ
+  place i = r + (1 + i)
+
+  above : (v i : ℕ) → v / 2 ^ place i ≡ v / 2 ^ r / 2 / 2 ^ i
+  above v i = sym (shr-shr v r (1 + i)) ∙ sym (shr-shr (v / 2 ^ r) 1 i)
+
+  same-bit : (j : ℕ) → j ≢ r → (m - 2 ^ r) / 2 ^ j % 2 ≡ m / 2 ^ j % 2
+  same-bit j n = elim (decLt j r) [
+    | yes p ↦ sym (lower j r (m - 2 ^ r) p) ∙ ap (λ (v : ℕ). v / 2 ^ j % 2) again
+    | no p ↦
+        let e : j ≡ place (j - r - 1) = omega arith in
+        let d = down in
+        let f : (m - 2 ^ r) / 2 ^ r / 2 ≡ m / 2 ^ r / 2 = omega arith in
+        rw (e, above (m - 2 ^ r) (j - r - 1), above m (j - r - 1), f)
+  ]
+
+  pub less-bit : Bits (m - 2 ^ r) (λ j. (j ≢ r) × Has m j)
+  less-bit = record {
+    to = λ j k. (off j k, sym (same-bit j (off j k)) ∙ k);
+    from = λ j k. same-bit j (k .0) ∙ k .1;
   }
-
--- the highest bit, as code looks for it
-pub some-high : (m r : ℕ) → (m / 2 ^ r ≡ 0 → ⊥) → 2 ^ r ≤ m
-some-high m r n = elim (decLt m (2 ^ r)) [ yes p ↦ absurd (n (div-eq-of-lt p)) | no p ↦ omega arith ]
-
-pub none-high : (m r : ℕ) → m / 2 ^ r ≡ 0 → m < 2 ^ r
-none-high m r e =
-    let k : 2 ^ 0 ≤ 2 ^ r = grows 0 r (omega arith) in
-    let h : m < m / 2 ^ r * 2 ^ r + 2 ^ r = lt-div-mul-add (omega arith) in
-    let g : m / 2 ^ r * 2 ^ r ≡ 0 = rw (e, zero-mul) in
-    omega arith
+    where
+      off : (j : ℕ) → Has (m - 2 ^ r) j → j ≢ r
+      off j k e = let b : Has (m - 2 ^ r) r = rw e at k in let d = down in omega arith

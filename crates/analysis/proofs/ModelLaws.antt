@@ -1,33 +1,22 @@
 -- Rows that are all fresh are the least model, byte for byte, and the verdict is read off them.
-use mathlib.Core.Path.{_≡_, refl, sym, ap, _∙_, subst}
-use mathlib.Core.Logic.{_⊎_, inl, inr, ⊎-elim}
-use mathlib.Core.List.{List, []}
-use Prim.Native.Nat.{ℕ, zero, suc, _+_, _*_, _/_, _%_, _^_, _≤_, _<_}
+use mathlib.Core.Path.{_≡_, sym, subst}
+use mathlib.Core.Logic.{inl, inr}
+use mathlib.Core.List.{List}
+use Prim.Native.Nat.{ℕ, _+_, _*_, _/_, _%_, _^_, _≤_, _<_}
 use native.Mathlib.Omega.{arith}
 use native.Mathlib.Decide.{ℕ-discrete, decLt}
-use native.Mathlib.Nat.{div-one}
-use lib.ListN.{length, getD, List·getD-eq-default}
-use Rattle.table.specs.Program.{Program, params, body}
+use lib.ListN.{length, getD}
+use Rattle.table.specs.Program.{Program}
 use Rattle.rules.specs.Label.{Label, own, unknown, several}
-use Rattle.rules.specs.Model.{Model, Row, Ring}
+use Rattle.rules.specs.Model.{Row, Ring}
 use Rattle.rules.specs.Verdict.{Reached, Clear, RingAt}
-use Rattle.grid.specs.Rows.{Has, Bits}
-use Rattle.grid.specs.Grid.{Pair, LowestRing}
-use Rattle.grid.specs.laws.Masks.{has-zero}
-use Rattle.rows.specs.Model.{Labelled, RowBits, RingByte, Shaped}
+use Rattle.grid.specs.Rows.{Bits}
+use Rattle.rows.specs.Model.{Labelled, RingByte}
 use Rattle.rows.specs.laws.Fixpoint.{Settled, settled}
-use Rattle.analysis.specs.Answer.{row-bytes, row-names, Flag, Cell, Models}
+use Rattle.table.specs.Constants.{row-bytes, row-names}
+use Rattle.analysis.specs.Answer.{Flag, Cell, Models}
 use Rattle.analysis.specs.laws.Due.{LowestRing as LowestRoutine}
-use Rattle.analysis.specs.laws.Settle.{RowsOf, WorkedOut, Fresh, Partly, GridOf}
-
--- a pair of a grid starts at one of its rows
-pair-inside : (g : List (List ℕ)) (a b : ℕ) (l : Label) → Pair g a b l → a < length g
-pair-inside g a b l p = elim (decLt a (length g)) [
-  | yes q ↦ q
-  | no q ↦
-      let e : getD g a [] ≡ [] = List·getD-eq-default g [] {n = a} (omega arith) in
-      absurd (has-zero (p .0) (rw e at (p .3)))
-]
+use Rattle.analysis.specs.laws.Settle.{RowsOf, Named, Fresh, Partly}
 
 -- a bit that is set exactly where Q holds
 bit-flag : (v : ℕ) (Q : Type 0) → v < 2 → (v ≡ 1 → Q) → (Q → v ≡ 1) → Flag v Q
@@ -37,8 +26,8 @@ bit-flag v Q l f g = step (ℕ-discrete v 1)
     step (yes e) = inl (e, f e)
     step (no n) = inr (omega arith, λ q. n (g q))
 
-module _ (P : Program) (before model : List ℕ) (part : Partly P before model (λ r. ⊥)) where
-  fresh : (r : ℕ) → r < length P → Fresh P model r
+module _ (P : Program) (before model names : List ℕ) (part : Partly P before model names (λ r. ⊥)) where
+  fresh : (r : ℕ) → r < length P → Fresh P model names r
   fresh r l = part .fresh r l (λ x. x)
 
   pub all-settled : Settled P (RowsOf (length P) model)
@@ -88,41 +77,31 @@ module _ (P : Program) (before model : List ℕ) (part : Partly P before model (
           bit-flag (getD model (65 * r + 64) 0) ((x : ℕ) × Ring P r x) (omega arith)
           (λ e. part .ring-sound r l e) (λ h. ring-told r (h .0) l (h .1))
 
-  -- the verdict, from the routines that calls reach and the lowest of them whose row tells of a ring
+  -- clear is said where no row of a routine that calls reach tells of a ring
+  pub no-ring : ((q : ℕ) → Reached P q → q < length P) → ((q : ℕ) → Reached P q → RingByte model q → ⊥) → Clear P
+  no-ring within none q x h ring = none q h (ring-told q x (within q h) ring)
+
+  -- a ring, from the routines that calls reach and the lowest of them whose row tells of one
   module _ (mask r : ℕ) (reach : Bits mask (Reached P)) (within : (q : ℕ) → Reached P q → q < length P)
       (low : LowestRoutine model (length P) mask r) where
-    pub no-ring : length P ≤ r → Clear P
-    no-ring n q x h ring =
-        low .lowest q (let l = within q h in omega arith) (reach .from q h) (ring-told q x (within q h) ring)
-
-    -- the lowest name with a ring in the closed grid of that routine
-    pub ring-at : r < length P → (g : List (List ℕ)) (x : ℕ) → length g ≤ 16 → GridOf P model r g → LowestRing g x
-        → RingAt P r x × (x < 16)
-    ring-at l g x long pairs name = (
+    pub ring-at : r < length P → RingAt P r (getD names r 0) × (getD names r 0 < 16)
+    ring-at l = (
       record {
         reached = reach .to r (low .found l .0);
-        ring = to-ring (name .ring few);
+        ring = all-settled .ring-to r (getD names r 0) (name .ring few);
         lowest-routine = λ q y h z. lower q y h z;
-        lowest-name = λ y h. name .lowest y (from-ring y h);
+        lowest-name = λ y h. name .lowest y (all-settled .ring-from r y h) .0;
       },
       few,
     )
       where
-        to-ring : {y : ℕ} → Pair g y y several → Ring P r y
-        to-ring {y} p = all-settled .ring-to r y (pairs .only y y several p)
+        name : Named P model r (getD names r 0)
+        name = fresh r l .name
 
-        from-ring : (y : ℕ) → Ring P r y → Pair g y y several
-        from-ring y h = pairs .all y y several (all-settled .ring-from r y h)
-
-        some : (y : ℕ) × Ring P r y
-        some = part .ring-sound r l (low .found l .1)
-
-        few : x < 16
+        few : getD names r 0 < 16
         few =
-            let p = from-ring (some .0) (some .1) in
-            let i = pair-inside g (some .0) (some .0) several p in
-            let n = name .lowest (some .0) p in
-            omega arith
+            let some = part .ring-sound r l (low .found l .1) in
+            name .lowest (some .0) (all-settled .ring-from r (some .0) (some .1)) .1
 
         lower : (q y : ℕ) → Reached P q → Ring P q y → r ≤ q
         lower q y h z = elim (decLt q r) [

@@ -1,24 +1,30 @@
 -- An improvement keeps what holds of the rows: the routine that was due becomes fresh, and only its callers may become
 -- due. Rows none of which is due are the model.
-use mathlib.Core.Path.{_≡_, refl, sym, ap, _∙_, subst}
+use mathlib.Core.Path.{_≡_, refl, sym, _∙_, subst}
 use mathlib.Core.Logic.{_≢_, _⊎_, inl, inr, ⊎-elim}
 use mathlib.Core.Bool.{Bool, true, false}
 use mathlib.Core.List.{List}
-use Prim.Native.Nat.{ℕ, _+_, _*_, _≤_, _<_}
+use Prim.Native.Nat.{ℕ, _≤_, _<_}
 use native.Mathlib.Omega.{arith}
 use native.Mathlib.Decide.{ℕ-discrete}
-use lib.ListN.{length, getD}
+use lib.ListN.{length, getD, set}
+use lib.Seq.{getD-set-same, getD-set-other}
 use Rattle.table.specs.Program.{Program, params, body}
 use Rattle.rules.specs.Label.{Label, several, cut}
 use Rattle.rules.specs.Model.{Ring}
 use Rattle.rules.specs.Verdict.{Calls}
 use Rattle.rules.specs.laws.Satisfies.{RowOf}
 use Rattle.rows.specs.Model.{RowBits, RingByte, RowAdded, GridRow, HasRing}
-use Rattle.rows.specs.laws.Fixpoint.{Derived, Sound, UpToDate, sound-step, sound-added, calls-only, up-to-date-kept}
-use Rattle.analysis.specs.laws.Settle.{RowsOf, WorkedOut, Fresh, Partly, GridOf, Improved}
+use Rattle.rows.specs.laws.Fixpoint.{Sound, sound-step, sound-added, calls-only, up-to-date-kept}
+use Rattle.analysis.specs.laws.Settle.{RowsOf, WorkedOut, Named, Fresh, Partly, Improved}
 
-module _ (P : Program) (before model after : List ℕ) (r : ℕ) (changed : Bool) (lt : r < length P)
-    (due : ℕ → Type 0) (part : Partly P before model due) (imp : Improved P model after r changed) where
+module _ (P : Program) (before model after names : List ℕ) (r : ℕ) (changed : Bool) (x : ℕ) (lt : r < length P)
+    (due : ℕ → Type 0) (part : Partly P before model names due) (imp : Improved P model after r changed x)
+    (place : r < length names) where
+  -- the ring names afterwards
+  abbrev renamed : List ℕ
+  renamed = set names r x
+
   add : RowAdded model after r (params P r) (imp .grid) changed
   add = imp .added
 
@@ -55,24 +61,35 @@ module _ (P : Program) (before model after : List ℕ) (r : ℕ) (changed : Bool
     back : (a b : ℕ) (l : Label) → WorkedOut P after q a b l → WorkedOut P model q a b l
     back = calls-only P (RowsOf (length P) after) (RowsOf (length P) model) q same
 
-    stays-fresh : Fresh P model q → Fresh P after q
-    stays-fresh f = record {
-      row = up-to-date-kept P (RowsOf (length P) model) (RowsOf (length P) after) q (keeps q) same (f .row);
-      ring = λ x w. add .ring-old q (f .ring x (back x x several w));
+    forth : (a b : ℕ) (l : Label) → WorkedOut P model q a b l → WorkedOut P after q a b l
+    forth = calls-only P (RowsOf (length P) model) (RowsOf (length P) after) q (λ p a b l k. keeps p a b l)
+
+    stays-named : (y : ℕ) → Named P model q y → Named P after q y
+    stays-named y n = record {
+      ring = λ l. forth y y several (n .ring l);
+      lowest = λ z w. n .lowest z (back z z several w);
     }
 
-    becomes-fresh : q ≡ r → Fresh P after q
+    stays-fresh : q ≢ r → Fresh P model names q → Fresh P after renamed q
+    stays-fresh m f = record {
+      row = up-to-date-kept P (RowsOf (length P) model) (RowsOf (length P) after) q (keeps q) same (f .row);
+      ring = λ y w. add .ring-old q (f .ring y (back y y several w));
+      name = rw (getD-set-other names r q x 0 m) (stays-named (getD names q 0) (f .name));
+    }
+
+    becomes-fresh : q ≡ r → Fresh P after renamed q
     becomes-fresh e = record {
       row = λ a b m w ha hb ne. (
         lq,
         subst (λ (v : ℕ). RowBits after v a b (cut m)) (sym e)
             (add .new a b (cut m) (m, imp .pairs .all a b m (at-r (back a b m w)), up ha, up hb, ne, refl)),
       );
-      ring = λ x w. subst (RingByte after) (sym e) (add .ring-new (
-        x,
-        imp .pairs .all x x several
-            (at-r (back x x several w)),
+      ring = λ y w. subst (RingByte after) (sym e) (add .ring-new (
+        y,
+        imp .pairs .all y y several
+            (at-r (back y y several w)),
       ));
+      name = stays-named (getD renamed q 0) (rw (e, getD-set-same names r x 0 place) (imp .named));
     }
       where
         at-r : {a b : ℕ} {m : Label} → WorkedOut P model q a b m → WorkedOut P model r a b m
@@ -83,7 +100,8 @@ module _ (P : Program) (before model after : List ℕ) (r : ℕ) (changed : Bool
 
   -- what is due afterwards: what was due but r, and, where the row changed, its callers
   pub improved-partly : (next : ℕ → Type 0) → ((q : ℕ) → due q → (q ≡ r) ⊎ next q)
-      → (changed ≡ true → (q : ℕ) → q < length P → Calls (body P q) r → next q) → Partly P before after next
+      → (changed ≡ true → (q : ℕ) → q < length P → Calls (body P q) r → next q)
+      → Partly P before after renamed next
   improved-partly next left callers = record {
     long = add .long ∙ part .long;
     rest = λ i h. add .outside i (inr (omega arith)) ∙ part .rest i h;
@@ -104,7 +122,7 @@ module _ (P : Program) (before model after : List ℕ) (r : ℕ) (changed : Bool
       unchanged true e q lq n p a b l k w =
           ⊎-elim (λ x. x) (λ x. absurd (n (callers e q lq (rw (x .0) at k)))) (split p a b l w)
 
-      fresh : (q : ℕ) → q < length P → (next q → ⊥) → Dec (q ≡ r) → Fresh P after q
+      fresh : (q : ℕ) → q < length P → (next q → ⊥) → Dec (q ≡ r) → Fresh P after renamed q
       fresh q lq n (yes e) = becomes-fresh q lq (unchanged changed refl q lq n) e
-      fresh q lq n (no m) = stays-fresh q lq (unchanged changed refl q lq n)
+      fresh q lq n (no m) = stays-fresh q lq (unchanged changed refl q lq n) m
           (part .fresh q lq (λ d. ⊎-elim (λ e. m e) n (left q d)))

@@ -1,5 +1,6 @@
 -- The verdict that is read off the rows is the one that the rules give, and a clear one promises safe runs.
-use mathlib.Core.Path.{_≡_, refl, sym, ap, _∙_}
+use mathlib.Core.Path.{_≡_}
+use mathlib.Core.Bool.{false}
 use mathlib.Core.List.{List}
 use Prim.Native.Nat.{ℕ, _*_, _≤_, _<_}
 use native.Mathlib.Omega.{arith}
@@ -10,108 +11,114 @@ use Rattle.table.specs.laws.Formed.{well-formed}
 use Rattle.rules.specs.Verdict.{Reached}
 use Rattle.run.specs.laws.Safety.{clear-is-safe}
 use Rattle.grid.specs.Rows.{Bits}
-use Rattle.grid.specs.Grid.{LowestRing}
-use Rattle.analysis.specs.Answer.{row-bytes, Says, SafeRuns, JudgedAs}
+use Rattle.rows.specs.Model.{RingByte}
 use Rattle.analysis.specs.declared.Verdict.{Verdict}
 use Rattle.analysis.specs.declared.Verdict.the-variants.{Clear, Ring}
 use Rattle.analysis.specs.laws.Reach.{Reachable}
-use Rattle.analysis.specs.laws.Due.{LowestRing as LowestRoutine}
-use Rattle.analysis.specs.laws.Settle.{Partly}
-use Rattle.analysis.specs.laws.Bodies.{Holds, Known, BodyOf, BodyReady, Works, Finished, Pronounces, Settled}
-use Rattle.analysis.specs.laws.Bodies.{CanSettle, JudgesKnown}
+use Rattle.analysis.specs.laws.Due.{Callers, AnyRing, LowestRing as LowestRoutine}
+use Rattle.analysis.specs.laws.Bodies.{Known, Finished, Pronounces, Settled}
+use Rattle.analysis.specs.laws.Bodies.{Linked, CanSettle, CanJudgeKnown, JudgesKnown}
 use Rattle.analysis.proofs.ModelLaws.{are-models, no-ring, ring-at}
 use Rattle.analysis.proofs.BodyLaws.{reached-within, reached-bits}
-use Rattle.analysis.proofs.LoopLaws.{routines}
 
-module _ (ks s starts calls model : List ℕ) where
+module _ (calls model names : List ℕ) where
   -- the program is well formed, and its calls reach the routines of the mask
-  module _ (P : Program) (known : Known P ks s starts calls) where
+  module _ (P : Program) (ks s starts : List ℕ) (known : Known P ks s starts calls) where
     formed : WellFormed P
     formed = well-formed P (known .holds .limits)
-
-    count : length ks ≡ length P
-    count = routines P ks s (known .holds)
 
     mask-reached : (mask : ℕ) → Bits mask (Reachable calls) → Bits mask (Reached P)
     mask-reached mask b = reached-bits P formed starts calls (known .surveyed) mask b
 
-    pub body-here : (r : ℕ) → r < length ks → BodyOf P ks s (getD starts r 0) r
-    body-here r l =
-        let e = count in
-        let lr : r < length P = omega arith in
-        record { holds = known .holds; listed = lr; starts = known .surveyed .start r lr }
-
-  module _ (fin : Finished ks s starts calls model) where
-    same : length ks ≡ length (fin .program)
-    same = routines (fin .program) ks s (fin .known .holds)
-
-    pub calls-few : length calls ≤ 64
-    calls-few =
-        let e = fin .known .surveyed .calls-long in
-        let l = fin .known .holds .limits .few-routines in
+    within : (q : ℕ) → Reached P q → q < length calls
+    within q h =
+        let e = known .surveyed .calls-long in
+        let l = reached-within P formed q h in
         omega arith
 
-    pub rows-there : (length ks ≤ 64) × (65 * length ks ≤ length model)
-    rows-there =
-        let e = same in
-        let l = fin .known .holds .limits .few-routines in
-        let g = fin .long in
-        (omega arith, omega arith)
+  pub rows-there : Finished calls model names → (length calls ≤ 64) × (65 * length calls ≤ length model)
+  rows-there fin =
+      let e = fin .known .surveyed .calls-long in
+      let l = fin .known .holds .limits .few-routines in
+      let g = fin .long in
+      (omega arith, omega arith)
 
-    pub start-there : (r : ℕ) → r < length ks → r < length starts
-    start-there r l = let e = same in let f = fin .known .surveyed .starts-long in omega arith
+  -- no row tells of a ring, or none of a routine that calls reach
+  says-clear : ((P : Program) (ks s starts : List ℕ) → Known P ks s starts calls → (q : ℕ) → Reached P q
+      → RingByte model q → ⊥)
+      → Pronounces calls model names Clear
+  says-clear none P ks s starts before known part = (
+    no-ring P before model names part (reached-within P (formed P ks s starts known)) (none P ks s starts known),
+    tt,
+  )
 
-    pub body-ready : (r : ℕ) → r < length ks → BodyReady ks s (getD starts r 0) model
-    body-ready r l = record {
-      program = fin .program;
-      routine = r;
-      body-of = body-here (fin .program) (fin .known) r l;
-      long = fin .long;
-    }
+  pub none-clear : AnyRing model (length calls) false → Pronounces calls model names Clear
+  none-clear none = says-clear (λ P ks s starts known q h. none q (within P ks s starts known q h))
 
-  module _ (mask r : ℕ) (reach : Bits mask (Reachable calls)) (low : LowestRoutine model (length ks) mask r) where
-    pub says-clear : length ks ≤ r → Pronounces ks s starts calls model Clear
-    says-clear l P before known part =
-        let e = count P known in (
-          no-ring P before model part mask r (mask-reached P known mask reach) (reached-within P (formed P known))
-              (rw e at low) (omega arith),
-          tt,
-        )
+  module _ (mask r : ℕ) (reach : Bits mask (Reachable calls)) (low : LowestRoutine model (length calls) mask r) where
+    pub unreached-clear : length calls ≤ r → Pronounces calls model names Clear
+    unreached-clear l = says-clear (λ P ks s starts known q h. low .lowest q
+        (let k = within P ks s starts known q h in omega arith) (mask-reached P ks s starts known mask reach .from q h))
 
-    pub says-ring : r < length ks → (g : List (List ℕ)) (x : ℕ) → length g ≤ 16 → Works ks s (getD starts r 0) model g
-        → LowestRing g x → Pronounces ks s starts calls model (Ring (record { routine = r; name = x }))
-    says-ring l g x long works name P before known part =
-        let e = count P known in
+    pub says-ring : r < length calls
+        → Pronounces calls model names (Ring (record { routine = r; name = getD names r 0 }))
+    says-ring l P ks s starts before known part =
+        let e = known .surveyed .calls-long in
         let f = known .holds .limits .few-routines in
-        let h = ring-at P before model part mask r (mask-reached P known mask reach) (reached-within P (formed P known))
-        (rw e at low) (omega arith) g x long (works P r (body-here P known r l)) name in
+        let h = ring-at P before model names part mask r (mask-reached P ks s starts known mask reach)
+        (reached-within P (formed P ks s starts known)) (rw e at low) (omega arith) in
         (h .0, (omega arith, h .1))
 
--- what the judgement leaves
-module _ (ks s starts calls before after : List ℕ) (verdict : Verdict) where
-  pub judged-known : Settled ks s starts calls before after → Pronounces ks s starts calls after verdict
-      → JudgesKnown ks s starts calls before after verdict
-  judged-known st pr P known l =
-      let part = st P known l in
-      let says = pr P before known part in (
-        record {
-          model = are-models P before after part;
-          same-length = part .long;
-          rest = part .rest;
-          says = says .0;
-          safe = λ e. clear-is-safe P (well-formed P (known .holds .limits)) (rw e at (says .0));
-        },
-        says .1,
-      )
+pub few-calls : (ks s starts calls model : List ℕ) → CanJudgeKnown ks s starts calls model → length calls ≤ 64
+few-calls ks s starts calls model p =
+    let e = p .known .surveyed .calls-long in
+    let l = p .known .holds .limits .few-routines in
+    omega arith
 
-  pub finished-from : CanSettle ks s starts calls before → Settled ks s starts calls before after
-      → length after ≡ length before → Finished ks s starts calls after
-  finished-from p st e =
-      let l = p .long in
+module _ (ks s starts calls callers : List ℕ) (turned : Callers calls callers) where
+  linked : (P : Program) → Known P ks s starts calls → Linked P ks s starts callers
+  linked P known =
+      let e = known .surveyed .calls-long in
       record {
-        program = p .program;
-        known = p .known;
-        long = omega arith;
-        before = before;
-        partly = st (p .program) (p .known) l;
+        holds = known .holds;
+        start = known .surveyed .start;
+        starts-long = known .surveyed .starts-long;
+        callers-of = λ r q l w. turned .told q r (omega arith, known .surveyed .calls-from q r l w);
+        callers-below = rw e at (turned .below);
       }
+
+  pub can-settle : (model : List ℕ) → CanJudgeKnown ks s starts calls model → CanSettle ks s starts callers model
+  can-settle model p =
+      record { program = p .program; linked = linked (p .program) (p .known); long = p .long }
+
+  -- what the judgement leaves
+  module _ (before after names : List ℕ) (settled : Settled ks s starts callers before after names) where
+    pub judged-known : (verdict : Verdict) → Pronounces calls after names verdict
+        → JudgesKnown ks s starts calls before after verdict
+    judged-known verdict pr P known l =
+        let part = settled P (linked P known) l in
+        let says = pr P ks s starts before known part in (
+          record {
+            model = are-models P before after names part;
+            same-length = part .long;
+            rest = part .rest;
+            says = says .0;
+            safe = λ e. clear-is-safe P (well-formed P (known .holds .limits)) (rw e at (says .0));
+          },
+          says .1,
+        )
+
+    pub finished-from : CanJudgeKnown ks s starts calls before → length after ≡ length before
+        → Finished calls after names
+    finished-from p e =
+        let l = p .long in
+        record {
+          program = p .program;
+          ks = ks;
+          s = s;
+          starts = starts;
+          known = p .known;
+          long = omega arith;
+          before = before;
+          partly = settled (p .program) (linked (p .program) (p .known)) l;
+        }

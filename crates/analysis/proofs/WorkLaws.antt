@@ -1,28 +1,49 @@
 -- What is worked out in a body: the walk records, and the closing composes.
-use mathlib.Core.Path.{_≡_, refl, sym, ap, _∙_}
-use mathlib.Core.List.{List, _++_}
+use mathlib.Core.Path.{_≡_, ap, _∙_}
+use mathlib.Core.List.{List, [], _++_}
 use mathlib.Core.Option.{some}
-use Prim.Native.Nat.{ℕ, suc, _+_, _*_, _≤_, _<_}
+use Prim.Native.Nat.{ℕ, _+_, _*_, _≤_, _<_}
 use native.Mathlib.Omega.{arith}
-use lib.ListN.{length, drop}
+use native.Mathlib.Decide.{decLt}
+use lib.ListN.{length, getD, drop, List·getD-eq-default}
 use Rattle.table.specs.Constants.{END}
 use Rattle.table.specs.Program.{Program, body}
 use Rattle.table.specs.Encoding.{encode}
 use Rattle.table.specs.laws.Formed.{well-formed}
-use Rattle.rules.specs.Label.{Label, own}
-use Rattle.rules.specs.Model.{Kept}
+use Rattle.rules.specs.Label.{Label, own, several}
 use Rattle.rules.specs.laws.Closure.{Closed}
-use Rattle.grid.specs.Grid.{Pair, Closure}
+use Rattle.grid.specs.Grid.{Pair, Closure, LowestRing}
+use Rattle.grid.specs.laws.Masks.{has-zero}
 use Rattle.rows.specs.Model.{RowBits}
 use Rattle.rows.specs.laws.Fixpoint.{KeptFrom, closed-mono, recorded-calls}
 use Rattle.pairs.specs.Fine.{IsBody}
 use Rattle.pairs.specs.Contracts.{Records}
-use Rattle.analysis.specs.Answer.{row-bytes}
-use Rattle.analysis.specs.laws.Settle.{RowsOf, GridOf}
-use Rattle.analysis.specs.laws.Bodies.{startOf, BodyOf, BodyReady, Works}
+use Rattle.analysis.specs.laws.Settle.{RowsOf, GridOf, Named}
+use Rattle.analysis.specs.laws.Bodies.{BodyReady, Works}
 use Rattle.analysis.proofs.BodyLaws.{body-calls}
 use Rattle.analysis.proofs.LoopLaws.{routines}
 use Rattle.analysis.proofs.SurveyLaws.{rest, fine-here, bytes-here, is-body}
+
+-- a pair of a grid starts at one of its rows
+pair-inside : (g : List (List ℕ)) (a b : ℕ) (l : Label) → Pair g a b l → a < length g
+pair-inside g a b l p = elim (decLt a (length g)) [
+  | yes q ↦ q
+  | no q ↦
+      let e : getD g a [] ≡ [] = List·getD-eq-default g [] {n = a} (omega arith) in
+      absurd (has-zero (p .0) (rw e at (p .3)))
+]
+
+-- the ring name of a grid is that of the body
+pub named-by : (P : Program) (model : List ℕ) (r : ℕ) (g : List (List ℕ)) (x : ℕ) → length g ≤ 16 → GridOf P model r g
+    → LowestRing g x → Named P model r x
+named-by P model r g x long pairs name = record {
+  ring = λ l. pairs .only x x several (name .ring l);
+  lowest = λ y w.
+      let p = pairs .all y y several w in
+      let i = pair-inside g y y several p in
+      let l = name .lowest y p in
+      (l, omega arith);
+}
 
 module _ (ks s : List ℕ) (at : ℕ) (rows : List ℕ) where
   pub can-record : BodyReady ks s at rows → IsBody ks s at × (65 * length ks ≤ length rows)

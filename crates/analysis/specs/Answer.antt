@@ -4,6 +4,7 @@ use mathlib.Core.Logic.{_⊎_}
 use mathlib.Core.List.{List}
 use Prim.Native.Nat.{ℕ, _+_, _*_, _≤_, _<_}
 use lib.ListN.{length, getD}
+use Rattle.table.specs.Constants.{most-routines, most-names, row-names, row-cells, row-bytes}
 use Rattle.table.specs.Program.{Program}
 use Rattle.table.specs.Check.{refused, accepted, checkTable}
 use Rattle.rules.specs.Label.{own, unknown, several}
@@ -14,14 +15,6 @@ use Rattle.analysis.specs.declared.Verdict.{Verdict}
 use Rattle.analysis.specs.declared.Verdict.the-variants.{Clear as SaysClear, Ring as SaysRing}
 use Rattle.analysis.specs.declared.Answer.{Answer}
 use Rattle.analysis.specs.declared.Answer.the-variants.{Judged, Refused}
-
--- how many bytes a routine's row has
-abbrev pub row-bytes : ℕ
-row-bytes = 65
-
--- how many names a row has cells for: name 0 and the parameters
-abbrev pub row-names : ℕ
-row-names = 8
 
 -- the refusal of a model buffer that is too short
 abbrev pub short-buffer : ℕ
@@ -46,7 +39,7 @@ pub record Models (P : Program) (model : List ℕ) : Type 0 where
   pub cells : (r a b : ℕ) → r < length P → a < row-names → b < row-names
       → Cell P r a b (getD model (row-bytes * r + (row-names * a + b)) 0)
   pub last : (r : ℕ) → r < length P
-      → Flag (getD model (row-bytes * r + row-names * row-names) 0) ((x : ℕ) × Ring P r x)
+      → Flag (getD model (row-bytes * r + row-cells) 0) ((x : ℕ) × Ring P r x)
 
 -- what the verdict says of P
 abbrev pub Says : Program → Verdict → Type 0
@@ -77,15 +70,15 @@ pub record Analysed (table before after : List ℕ) (answer : Answer) : Type 0 w
   pub judged : (P : Program) → checkTable table ≡ accepted P → row-bytes * length P ≤ length before
       → (verdict : Verdict) × (answer ≡ Judged verdict) × JudgedAs P before after verdict
 
--- a ring's numbers are those of a routine and a name of a table: below 64, and below 16
+-- a ring's numbers are those of a routine and a name of a table
 abbrev pub Short : Verdict → Type 0
 Short SaysClear = Unit {0}
-Short (SaysRing ring) = (ring .routine < 64) × (ring .name < 16)
+Short (SaysRing ring) = (ring .routine < most-routines) × (ring .name < most-names)
 
--- the same of an answer; a refusal is one of 1 to 15
+-- the same of an answer; a refusal is one of those from 1 to the last
 abbrev pub Fits : Answer → Type 0
 Fits (Judged verdict) = Short verdict
-Fits (Refused e) = (1 ≤ e) × (e ≤ 15)
+Fits (Refused e) = (1 ≤ e) × (e ≤ short-buffer)
 
 -- the launcher's number of a verdict
 abbrev pub verdictNumber : Verdict → ℕ

@@ -2,26 +2,37 @@
 ghost use mathlib.Core.Path.{_≡_};
 ghost use Prim.Native.Nat.{_*_, _^_, _≤_, _<_};
 ghost use lib.ListN.{length};
-ghost use Rattle.analysis.specs.laws.Due.{Highest, All, Callers, LowestRing};
+ghost use Rattle.table.specs.Constants.{most-routines, row-bytes};
+ghost use Rattle.grid.specs.Rows.{Has};
+ghost use Rattle.analysis.specs.laws.Due.{Highest, All, Below, CallerAdded, Callers, AnyRing, LowestRing};
+use table::limits::MOST_ROUTINES;
+use table::limits::ROW_BYTES;
+use table::limits::ROW_CELLS;
 
-// The highest routine of a mask of routines below n.
-pub fn highest(mask: u64, n: usize) -> usize
-    requires { ⌜ (0 < mask) × (mask < 2 ^ n) × (n ≤ 64) ⌝ }
-    ensures { λ r. ⌜ Highest mask n r ⌝ }
+// The highest routine of a mask.
+fn highest(mask: u64) -> usize
+    requires { ⌜ 0 < mask ⌝ }
+    ensures { λ r. ⌜ Highest mask r ⌝ }
 {
-    let mut r = n;
-    while 0 < r {
-        if mask >> ((r - 1) as u64) != 0 {
-            return r - 1;
-        }
-        r = r - 1;
+    (63 - u64::leading_zeros(mask)) as usize
+}
+
+// The routine of a mask that is next in a sweep downwards past `last`: routine 0 is left for when no other is due.
+pub fn next_due(left: u64, last: usize) -> usize
+    requires { ⌜ (0 < left) × (last < most-routines) ⌝ }
+    ensures { λ r. ⌜ Has left r ⌝ }
+{
+    let below = left % (1 << (last as u64));
+    if 1 < below {
+        highest(below)
+    } else {
+        highest(left)
     }
-    0
 }
 
 // All routines below n.
 pub fn all(n: usize) -> u64
-    requires { ⌜ n ≤ 64 ⌝ }
+    requires { ⌜ n ≤ most-routines ⌝ }
     ensures { λ m. ⌜ All n m ⌝ }
 {
     let mut mask = 0u64;
@@ -33,31 +44,56 @@ pub fn all(n: usize) -> u64
     mask
 }
 
-// The routines that call routine q.
-pub fn callers(calls: &[u64], q: usize) -> u64
-    requires { ⌜ (length (now calls) ≤ 64) × (q < 64) ⌝ }
-    ensures { λ m. ⌜ Callers (now (calls .entry)) q m ⌝ }
+// Adds routine r to the callers of each routine of the mask.
+fn add_caller(callers: &mut [u64; MOST_ROUTINES], mask: u64, r: usize)
+    requires { ⌜ (r < most-routines) × Below (now callers) r ⌝ }
+    ensures { λ _. ⌜ CallerAdded (now (callers .entry)) mask r (now (callers .exit)) ⌝ }
 {
-    let mut mask = 0u64;
+    let mut left = mask;
+    while left != 0 {
+        let q = highest(left);
+        let old = callers[q];
+        callers[q] = old | (1 << (r as u64));
+        left = left - (1 << (q as u64));
+    }
+}
+
+// Leaves, for each routine, the routines that call it, where no caller is known.
+pub fn add_callers(calls: &[u64], callers: &mut [u64; MOST_ROUTINES])
+    requires { ⌜ (length (now calls) ≤ most-routines) × Below (now callers) 0 ⌝ }
+    ensures { λ _. ⌜ Callers (now (calls .entry)) (now (callers .exit)) ⌝ }
+{
     let mut r = 0usize;
     while r < calls.len() {
-        if (calls[r] >> (q as u64)) % 2 == 1 {
-            mask = mask + (1 << (r as u64));
+        add_caller(callers, calls[r], r);
+        r = r + 1;
+    }
+}
+
+// Whether the row of a routine below n tells of a ring.
+pub fn any_ring(model: &[u8], n: usize) -> bool
+    requires { ⌜ (n ≤ most-routines) × (row-bytes * n ≤ length (now model)) ⌝ }
+    ensures { λ c. ⌜ AnyRing (now (model .entry)) n c ⌝ }
+{
+    let mut r = 0usize;
+    while r < n {
+        if model[ROW_BYTES * r + ROW_CELLS] == 1 {
+            return true;
         }
         r = r + 1;
     }
-    mask
+    false
 }
 
 // The lowest routine of the mask below n whose row tells of a ring, or n.
 pub fn lowest_ring(model: &[u8], n: usize, mask: u64) -> usize
-    requires { ⌜ (n ≤ 64) × (65 * n ≤ length (now model)) ⌝ }
+    requires { ⌜ (n ≤ most-routines) × (row-bytes * n ≤ length (now model)) ⌝ }
     ensures { λ r. ⌜ LowestRing (now (model .entry)) n mask r ⌝ }
 {
     let mut r = 0usize;
     while r < n {
         if (mask >> (r as u64)) % 2 == 1 {
-            if model[65 * r + 64] == 1 {
+            if model[ROW_BYTES * r + ROW_CELLS] == 1 {
                 return r;
             }
         }

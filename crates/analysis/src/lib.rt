@@ -4,20 +4,18 @@ ghost use Prim.Native.Nat.{_<_};
 ghost use Rattle.table.specs.Check.{checkTable};
 ghost use Rattle.table.specs.Answer.{checkNumber, checkedOf};
 ghost use Rattle.analysis.specs.Answer.{Analysed, AnalysedAs, Fits, Short, verdictNumber};
-ghost use Rattle.analysis.specs.laws.Bodies.{Finished, Pronounces, CanSettle, JudgesKnown, CanJudge, Judges};
+ghost use Rattle.analysis.specs.laws.Bodies.{Finished, Pronounces, CanJudgeKnown, JudgesKnown, CanJudge, Judges};
 
 mod due;
 mod reach;
 mod settle;
 mod survey;
 
-use survey::Survey;
 use survey::survey_bodies;
 use table::Checked;
 use table::check;
-
-// How many bytes a routine's row has.
-pub const ROW_BYTES: usize = 65;
+use table::limits::MOST_ROUTINES;
+use table::limits::ROW_BYTES;
 
 // The refusal of a model buffer that is too short.
 pub const SHORT_BUFFER: u64 = 15;
@@ -40,21 +38,22 @@ pub enum Answer {
     Refused(u64),
 }
 
-// What is said of a program whose rows are in the buffer.
-fn verdict_of(ks: &[u8], s: &[u8], starts: &[usize], calls: &[u64], model: &[u8]) -> Verdict
-    requires { ⌜ Finished (now ks) (now s) (now starts) (now calls) (now model) ⌝ }
-    ensures { λ v. ⌜ Pronounces (now (ks .entry)) (now (s .entry)) (now (starts .entry)) (now (calls .entry))
-        (now (model .entry)) v ⌝ }
+// What is said of a program whose rows are in the buffer, and whose ring names are `names`.
+fn verdict_of(calls: &[u64], model: &[u8], names: [u8; MOST_ROUTINES]) -> Verdict
+    requires { ⌜ Finished (now calls) (now model) names ⌝ }
+    ensures { λ v. ⌜ Pronounces (now (calls .entry)) (now (model .entry)) names v ⌝ }
 {
-    let n = ks.len();
+    let n = calls.len();
+    if !due::any_ring(model, n) {
+        return Verdict::Clear;
+    }
     let mask = reach::reached(calls);
     let r = due::lowest_ring(model, n, mask);
     if r < n {
-        let g = settle::worked_out(ks, s, starts[r], model);
-        let x = grid::ring_name(g);
+        let name = names[r] as u64;
         Verdict::Ring(RingPlace {
             routine: r as u64,
-            name: x as u64,
+            name: name,
         })
     } else {
         Verdict::Clear
@@ -63,12 +62,14 @@ fn verdict_of(ks: &[u8], s: &[u8], starts: &[usize], calls: &[u64], model: &[u8]
 
 // Leaves the model of a program that was surveyed, and judges it.
 fn judge_surveyed(ks: &[u8], s: &[u8], starts: &[usize], calls: &[u64], model: &mut [u8]) -> Verdict
-    requires { ⌜ CanSettle (now ks) (now s) (now starts) (now calls) (now model) ⌝ }
+    requires { ⌜ CanJudgeKnown (now ks) (now s) (now starts) (now calls) (now model) ⌝ }
     ensures { λ v. ⌜ JudgesKnown (now (ks .entry)) (now (s .entry)) (now (starts .entry)) (now (calls .entry))
         (now (model .entry)) (now (model .exit)) v ⌝ }
 {
-    settle::settle(ks, s, starts, calls, model);
-    verdict_of(ks, s, starts, calls, model)
+    let mut callers = [0u64; MOST_ROUTINES];
+    due::add_callers(calls, &mut callers);
+    let names = settle::settle(ks, s, starts, &callers, model);
+    verdict_of(calls, model, names)
 }
 
 // Leaves the model of the program that the sections hold, and judges it.
@@ -77,9 +78,9 @@ fn judge(ks: &[u8], s: &[u8], model: &mut [u8]) -> Verdict
     ensures { λ v. ⌜ Judges (now (ks .entry)) (now (s .entry)) (now (model .entry)) (now (model .exit)) v ⌝ }
 {
     let n = ks.len();
-    let v = survey_bodies(ks, s);
-    let starts = v.starts;
-    let calls = v.calls;
+    let mut starts = [0usize; MOST_ROUTINES];
+    let mut calls = [0u64; MOST_ROUTINES];
+    survey_bodies(ks, s, &mut starts, &mut calls);
     judge_surveyed(ks, s, &starts[0..n], &calls[0..n], model)
 }
 

@@ -2,12 +2,13 @@
 ghost use mathlib.Core.Path.{_≡_};
 ghost use Prim.Native.Nat.{_≤_};
 ghost use lib.ListN.{length};
+ghost use Rattle.table.specs.Constants.{most-routines};
 ghost use Rattle.grid.specs.Rows.{Bits};
 ghost use Rattle.analysis.specs.laws.Reach.{Called, Reachable};
 
 // The routines of the mask, and those that they call.
 fn called(calls: &[u64], mask: u64) -> u64
-    requires { ⌜ length (now calls) ≤ 64 ⌝ }
+    requires { ⌜ length (now calls) ≤ most-routines ⌝ }
     ensures { λ m. ⌜ Called (now (calls .entry)) mask m ⌝ }
 {
     let mut next = mask;
@@ -23,7 +24,7 @@ fn called(calls: &[u64], mask: u64) -> u64
 
 // The routines that calls reach from routine 0.
 pub fn reached(calls: &[u64]) -> u64
-    requires { ⌜ length (now calls) ≤ 64 ⌝ }
+    requires { ⌜ length (now calls) ≤ most-routines ⌝ }
     ensures { λ m. ⌜ Bits m (Reachable (now (calls .entry))) ⌝ }
 {
     let mut mask = 1u64;

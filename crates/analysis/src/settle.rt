@@ -6,10 +6,13 @@ ghost use Rattle.analysis.specs.laws.Bodies.{BodyReady, Works, RowReady,
 ghost use Rattle.analysis.specs.laws.Bodies.{CanSettle, Settled};
 use crate::due;
 use grid::Grid;
+use table::limits::MOST_NAMES;
+use table::limits::MOST_ROUTINES;
+use table::limits::ROW_BYTES;
 use table::scope::size;
 
 // The pairs worked out in the body at `at` from the rows, as a grid.
-pub fn worked_out(ks: &[u8], s: &[u8], at: usize, rows: &[u8]) -> Grid
+fn worked_out(ks: &[u8], s: &[u8], at: usize, rows: &[u8]) -> Grid
     requires { ⌜ BodyReady (now ks) (now s) at (now rows) ⌝ }
     ensures { λ g. ⌜ Works (now (ks .entry)) (now (s .entry)) at (now (rows .entry)) g ⌝ }
 {
@@ -17,39 +20,73 @@ pub fn worked_out(ks: &[u8], s: &[u8], at: usize, rows: &[u8]) -> Grid
     grid::close(g)
 }
 
-// Works out the row of routine r, whose body is at `at`, and says whether that changed it.
-fn improve(ks: &[u8], s: &[u8], at: usize, r: usize, model: &mut [u8]) -> bool
+// What stands for the ring name of a body that has none.
+const NO_RING: u8 = MOST_NAMES as u8;
+
+// What working out a row gives: whether that changed it, and the lowest name with a ring in the body, or NO_RING.
+struct Improvement {
+    changed: bool,
+    name: u8,
+}
+
+// Works out the row of routine r, whose body is at `at`.
+fn improve(ks: &[u8], s: &[u8], at: usize, r: usize, model: &mut [u8]) -> Improvement
     requires { ⌜ RowReady (now ks) (now s) at r (now model) ⌝ }
-    ensures { λ c. ⌜ Improves (now (ks .entry)) (now (s .entry)) at r (now (model .entry)) (now (model .exit)) c ⌝ }
+    ensures { λ w. ⌜ Improves (now (ks .entry)) (now (s .entry)) at r (now (model .entry)) (now (model .exit))
+        (w .changed) (w .name) ⌝ }
 {
     let k = size(ks[r]);
     let g = worked_out(ks, s, at, model);
-    rows::with_row(model, r, k, g)
-}
-
-// Works out the rows that are due, and those of the callers of each row that changes, until none is due.
-fn settle_due(ks: &[u8], s: &[u8], starts: &[usize], calls: &[u64], model: &mut [u8])
-    requires { ⌜ Started (now ks) (now s) (now starts) (now calls) (now model) ⌝ }
-    ensures { λ _. ⌜ Settles (now (ks .entry)) (now (s .entry)) (now (starts .entry)) (now (calls .entry))
-        (now (model .entry)) (now (model .exit)) ⌝ }
-{
-    let n = ks.len();
-    let mut left = due::all(n);
-    while left != 0 {
-        let r = due::highest(left, n);
-        left = left - (1 << (r as u64));
-        if improve(ks, s, starts[r], r, model) {
-            left = left | due::callers(calls, r);
-        }
+    let name = grid::ring_name(g) as u8;
+    let changed = rows::with_row(model, r, k, g);
+    Improvement {
+        changed: changed,
+        name: name,
     }
 }
 
-// Leaves the rows of the least model.
-pub fn settle(ks: &[u8], s: &[u8], starts: &[usize], calls: &[u64], model: &mut [u8])
-    requires { ⌜ CanSettle (now ks) (now s) (now starts) (now calls) (now model) ⌝ }
-    ensures { λ _. ⌜ Settled (now (ks .entry)) (now (s .entry)) (now (starts .entry)) (now (calls .entry))
-        (now (model .entry)) (now (model .exit)) ⌝ }
+// Works out the rows that are due, and those of the callers of each row that changes, until none is due. Gives the
+// lowest name with a ring in each body, or NO_RING.
+fn settle_due(
+    ks: &[u8],
+    s: &[u8],
+    starts: &[usize],
+    callers: &[u64; MOST_ROUTINES],
+    model: &mut [u8],
+) -> [u8; MOST_ROUTINES]
+    requires { ⌜ Started (now ks) (now s) (now starts) (now callers) (now model) ⌝ }
+    ensures { λ names. ⌜ Settles (now (ks .entry)) (now (s .entry)) (now (starts .entry)) (now (callers .entry))
+        (now (model .entry)) (now (model .exit)) names ⌝ }
 {
-    rows::clear_rows(model, 65 * ks.len());
-    settle_due(ks, s, starts, calls, model);
+    let n = ks.len();
+    let mut names = [NO_RING; MOST_ROUTINES];
+    let mut left = due::all(n);
+    let mut last = 0usize;
+    while left != 0 {
+        let r = due::next_due(left, last);
+        last = r;
+        left = left - (1 << (r as u64));
+        let w = improve(ks, s, starts[r], r, model);
+        names[r] = w.name;
+        if w.changed {
+            left = left | callers[r];
+        }
+    }
+    names
+}
+
+// Leaves the rows of the least model. Gives the lowest name with a ring in each body, or NO_RING.
+pub fn settle(
+    ks: &[u8],
+    s: &[u8],
+    starts: &[usize],
+    callers: &[u64; MOST_ROUTINES],
+    model: &mut [u8],
+) -> [u8; MOST_ROUTINES]
+    requires { ⌜ CanSettle (now ks) (now s) (now starts) (now callers) (now model) ⌝ }
+    ensures { λ names. ⌜ Settled (now (ks .entry)) (now (s .entry)) (now (starts .entry)) (now (callers .entry))
+        (now (model .entry)) (now (model .exit)) names ⌝ }
+{
+    rows::clear_rows(model, ROW_BYTES * ks.len());
+    settle_due(ks, s, starts, callers, model)
 }

@@ -1,21 +1,22 @@
 // A survey of the bodies: where each starts, and what it calls.
+ghost use mathlib.Core.Path.{_≡_};
+ghost use lib.ListN.{length};
+ghost use Rattle.table.specs.Constants.{most-routines};
 ghost use Rattle.analysis.specs.laws.Bodies.{Held, Surveys};
 use pairs::Scanned;
 use pairs::scan;
+use table::limits::MOST_ROUTINES;
 
-// For each routine, where its body starts in the section, and the routines that it calls, as bits.
-pub struct Survey {
-    pub starts: [usize; 64],
-    pub calls: [u64; 64],
-}
-
-// Surveys the bodies.
-pub fn survey_bodies(ks: &[u8], s: &[u8]) -> Survey
-    requires { ⌜ Held (now ks) (now s) ⌝ }
-    ensures { λ v. ⌜ Surveys (now (ks .entry)) (now (s .entry)) (v .starts) (v .calls) ⌝ }
+// Leaves, for each routine, where its body starts in the section, and the routines that it calls, as bits.
+pub fn survey_bodies(
+    ks: &[u8],
+    s: &[u8],
+    starts: &mut [usize; MOST_ROUTINES],
+    calls: &mut [u64; MOST_ROUTINES],
+)
+    requires { ⌜ Held (now ks) (now s) × (length (now starts) ≡ most-routines) × (length (now calls) ≡ most-routines) ⌝ }
+    ensures { λ _. ⌜ Surveys (now (ks .entry)) (now (s .entry)) (now (starts .exit)) (now (calls .exit)) ⌝ }
 {
-    let mut starts = [0usize; 64];
-    let mut calls = [0u64; 64];
     let mut at = 0usize;
     let mut r = 0usize;
     while r < ks.len() {
@@ -24,9 +25,5 @@ pub fn survey_bodies(ks: &[u8], s: &[u8]) -> Survey
         calls[r] = b.calls;
         at = b.next;
         r = r + 1;
-    }
-    Survey {
-        starts: starts,
-        calls: calls,
     }
 }

@@ -3,4 +3,5 @@ pub mod Pivots
 pub mod Shapes
 pub mod Loops
 pub mod Recorded
+pub mod Growing
 pub mod Closed

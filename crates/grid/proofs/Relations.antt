@@ -4,8 +4,8 @@ use mathlib.Core.Logic.{_⊎_, inl, inr, ⊎-elim}
 use Prim.Native.Nat.{ℕ, _+_, _<_}
 use native.Mathlib.Omega.{arith}
 use native.Mathlib.Decide.{decLt}
-use Rattle.grid.specs.Rows.{Rel, Or, Then, Apart, Walk, one, Star, Same}
-use Rattle.grid.specs.laws.Walks.{walk-map, first}
+use Rattle.grid.specs.Rows.{Rel, Or, Then, Walk, one, Star, Same}
+use Rattle.grid.specs.laws.Walks.{walk-map}
 
 -- a relation is the same as itself, and through another
 pub same-refl : (R : Rel) → Same R R
@@ -26,13 +26,6 @@ same-or R S F s f g = record {
 -- walks over relations that are the same
 pub same-walk : (R S : Rel) → Same R S → Same (Walk R) (Walk S)
 same-walk R S s = record { to = λ i j w. walk-map (s .to) w; from = λ i j w. walk-map (s .from) w }
-
-pub same-apart : (R S : Rel) → Same R S → Same (Apart R) (Apart S)
-same-apart R S s = record { to = λ i j p. (p .0, s .to i j (p .1)); from = λ i j p. (p .0, s .from i j (p .1)) }
-
--- no walk goes where there is no step
-pub no-walk : (R : Rel) → ((i j : ℕ) → R i j → ⊥) → (i j : ℕ) → Walk R i j → ⊥
-no-walk R h i j w = let f = first w in h i (f .0) (f .1)
 
 -- some F k with k below n
 abbrev pub Some : ℕ → (ℕ → Rel) → Rel

@@ -1,19 +1,18 @@
 -- The names that rows and grids have: their lengths and widths, and rows and grids of zeros.
 use mathlib.Core.Path.{_≡_, refl}
-use mathlib.Core.List.{List, [], _∷_}
+use mathlib.Core.List.{List, []}
 use Prim.Native.Nat.{ℕ, zero, suc, _<_}
 use native.Mathlib.Omega.{arith}
 use native.Mathlib.Decide.{decLt}
 use lib.ListN.{getD, length, replicate, List·getD-eq-default}
 use mir.Val.{Val}
 use mir.Syntax.{w16}
-use denote.Array.{each, inArray}
+use denote.Array.{each}
 use denote.Shadow.{shadow}
 use denote.Plain.{UInt}
 use borrow.Author.Needs.{elem-fits}
 use Rattle.grid.specs.Rows.{Has, Edge}
 use Rattle.grid.specs.Grid.{cell}
-use Rattle.grid.specs.laws.Square.{row-long}
 use Rattle.grid.specs.laws.Masks.{has-zero, has-below}
 
 -- a row with a bit is one of the rows
@@ -37,14 +36,6 @@ cell-row g n a b l h e =
           let z : getD g a [] ≡ [] = List·getD-eq-default g [] {n = a} (omega arith) in
           absurd (has-zero l (rw z at e))
     ]
-
-pub cell-fits :
-    (n : ℕ) (g : List (List ℕ)) (us : List Val) → shadow (each (List ℕ) (inArray ℕ (UInt w16 .own) n) g us)
-    → (a b : ℕ) → cell g a b < 65536
-cell-fits n [] us p a b = omega arith
-cell-fits n (r ∷ rs) [] p a b = absurd p
-cell-fits n (r ∷ rs) (u ∷ us) p zero b = elem-fits w16 w16 r (p .0 .0) b (p .0 .1 .1) tt .fits
-cell-fits n (r ∷ rs) (u ∷ us) p (suc a) b = cell-fits n rs us (p .1) a b
 
 -- a row of zeros
 pub zero-row : (n i : ℕ) → getD {A = ℕ} (replicate n 0) i 0 ≡ 0

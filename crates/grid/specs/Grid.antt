@@ -4,6 +4,7 @@ use mathlib.Core.Logic.{_≢_, _⊎_}
 use mathlib.Core.List.{List, []}
 use Prim.Native.Nat.{ℕ, _<_, _≤_}
 use lib.ListN.{getD, length}
+use Rattle.table.specs.Constants.{most-names}
 use Rattle.rules.specs.Label.{Label, several}
 use Rattle.rules.specs.Number.{labelOf}
 use Rattle.rules.specs.Model.{Kept}
@@ -28,8 +29,12 @@ Small g = (a b : ℕ) → cell g a b < 2048
 
 -- the grid has sixteen rows of sixteen masks
 pub record Square (g : List (List ℕ)) : Type 0 where
-  pub rows : length g ≡ 16
-  pub columns : (a : ℕ) → a < 16 → length (getD g a []) ≡ 16
+  pub rows : length g ≡ most-names
+  pub columns : (a : ℕ) → a < most-names → length (getD g a []) ≡ most-names
+
+-- the grid is square, and has small masks alone
+abbrev pub Proper : List (List ℕ) → Type 0
+Proper g = Square g × Small g
 
 -- each pair of the grid is kept
 abbrev pub AllKept : List (List ℕ) → Type 0
@@ -62,6 +67,6 @@ pub record Closure (g r : List (List ℕ)) : Type 0 where
 
 -- x is the lowest name with a ring, or 16 where there is none
 pub record LowestRing (g : List (List ℕ)) (x : ℕ) : Type 0 where
-  pub within : x ≤ 16
-  pub ring : x < 16 → Pair g x x several
+  pub within : x ≤ most-names
+  pub ring : x < most-names → Pair g x x several
   pub lowest : (y : ℕ) → Pair g y y several → x ≤ y

@@ -7,7 +7,8 @@ use lib.ListN.{getD}
 use Rattle.rules.specs.Label.{several, combine}
 use Rattle.rules.specs.Number.{labelOf}
 use Rattle.grid.specs.Rows.{Has, Rel, Edge, Or, Then, Star, Apart, Walk, Same}
-use Rattle.grid.specs.Grid.{cell}
+use Rattle.grid.specs.Grid.{cell, Pair}
+use Rattle.grid.specs.laws.Walks.{Mixed}
 
 -- from b to a where the pair (a, b) has label number l
 abbrev pub Labelled : List (List ℕ) → ℕ → Rel
@@ -16,6 +17,14 @@ Labelled g l b a = Has (cell g a b) l
 -- some pair from a has label number l
 abbrev pub RowLabels : List (List ℕ) → Rel
 RowLabels g a l = (b : ℕ) × Has (cell g a b) l
+
+-- the mask c has label number l alone, where that is own or a fork
+abbrev pub Sole : ℕ → ℕ → Type 0
+Sole c l = l < 9 → (j : ℕ) → Has c j → j ≡ l
+
+-- each pair that r relates has label number l
+abbrev pub PlaneIn : List (List ℕ) → List ℕ → ℕ → Type 0
+PlaneIn g r l = (b a : ℕ) → Edge r b a → Labelled g l b a
 
 -- plane l of p relates the pairs that have label number l
 abbrev pub PlanesOf : List (List ℕ) → List (List ℕ) → Type 0
@@ -45,20 +54,26 @@ Other p l a b = (m : ℕ) × Clashing l m × Edge (getD p m []) a b
 abbrev pub MixOf : List (List ℕ) → Rel
 MixOf p a b = Edge (getD p 10 []) a b ⊎ ((l : ℕ) × (l < 11) × Then (Edge (getD p l [])) (Other p l) a b)
 
--- from name a, the labels in the mask d by the planes q
-abbrev pub FromPlanes : List (List ℕ) → ℕ → ℕ → Rel
-FromPlanes q d a b k = (k < 11) × Has d k × Edge (getD q k []) b a
-
--- t is g with the planes in the mask d added
-abbrev pub PlanesAdded : List (List ℕ) → List (List ℕ) → ℕ → List (List ℕ) → Type 0
-PlanesAdded g q d t = (a : ℕ) → Same (Edge (getD t a [])) (Or (Edge (getD g a [])) (FromPlanes q d a))
-
 -- a mix, with walks of any labels before and after it
 abbrev pub SeveralOf : List (List ℕ) → Rel
 SeveralOf p a b = (u : ℕ) × (v : ℕ) × Star (Plane p) a u × MixOf p u v × Star (Plane p) v b
 
--- q is the planes of p closed: walks of own and of each fork, unknown as given, and several
-pub record ClosedPlanes (p q : List (List ℕ)) : Type 0 where
-  pub named : (l : ℕ) → l < 9 → Same (Edge (getD q l [])) (Apart (Walk (Edge (getD p l []))))
-  pub unknown : Same (Edge (getD q 9 [])) (Edge (getD p 9 []))
-  pub several : Same (Edge (getD q 10 [])) (SeveralOf p)
+-- r is g with each label number k added to the pair (a, b) for which F a b k holds
+pub record Grown (g : List (List ℕ)) (F : ℕ → Rel) (r : List (List ℕ)) : Type 0 where
+  pub row : (a : ℕ) → Same (Edge (getD r a [])) (Or (Edge (getD g a [])) (F a))
+
+-- label number l, of the pairs that q relates
+abbrev pub InPlane : List ℕ → ℕ → ℕ → Rel
+InPlane q l a b k = (k ≡ l) × Edge q b a
+
+-- label number l, of the walks of R from one name to another
+abbrev pub InWalks : Rel → ℕ → ℕ → Rel
+InWalks R l a b k = (k ≡ l) × Apart (Walk R) b a
+
+-- each label number below n, of the walks of its plane from one name to another
+abbrev pub InPlanes : ℕ → List (List ℕ) → ℕ → Rel
+InPlanes n p a b k = (k < n) × Apart (Walk (Edge (getD p k []))) b a
+
+-- what follows from the pairs of g: own and each fork of their walks, several of the mixes
+abbrev pub Follows : List (List ℕ) → ℕ → Rel
+Follows g a b k = ((k < 9) × Apart (Walk (Labelled g k)) b a) ⊎ ((k ≡ 10) × Mixed (Pair g) a b)

@@ -37,6 +37,10 @@ Spread s k m i j = Edge s i k × Has m j
 abbrev pub Apart : Rel → Rel
 Apart R i j = (i ≢ j) × R i j
 
+-- R, and not S
+abbrev pub Less : Rel → Rel → Rel
+Less R S i j = R i j × (S i j → ⊥)
+
 -- one or more steps of R
 pub data Walk (R : Rel) : ℕ → ℕ → Type 0 where
   one : {i j : ℕ} → R i j → Walk R i j

@@ -1,7 +1,6 @@
 // Grids of labelled pairs: recording, closing, and the lowest ring name.
-ghost use mathlib.Core.Path.{_≡_};
 ghost use Prim.Native.Nat.{_<_};
-ghost use Rattle.rules.specs.Number.{labelOf};
+ghost use Rattle.table.specs.Constants.{most-names};
 ghost use Rattle.grid.specs.Rows.{Bits};
 ghost use Rattle.grid.specs.Grid.{In, Small, AllKept, KeptIn, Empty, Added, Closure, LowestRing, Square};
 
@@ -9,14 +8,16 @@ mod closing;
 mod planes;
 mod rows;
 
+use table::limits::MOST_NAMES;
+
 // Row a, column b: the labels of the pair (a, b), as a mask of label numbers.
-pub type Grid = [[u16; 16]; 16];
+pub type Grid = [[u16; MOST_NAMES]; MOST_NAMES];
 
 // The grid with no pair.
 pub fn empty() -> Grid
     ensures { λ r. ⌜ Empty r ⌝ }
 {
-    let g = [[0u16; 16]; 16];
+    let g = [[0u16; MOST_NAMES]; MOST_NAMES];
     g
 }
 
@@ -29,7 +30,7 @@ fn kept(a: usize, b: usize, m: u16) -> u16
 
 // Adds the pair (a, b) to the grid in place, for each label of m with which it is kept.
 pub fn put_labels(g: &mut Grid, a: usize, b: usize, m: u16)
-    requires { ⌜ (a < 16) × (b < 16) × (m < 2048) × Small (now g) × Square (now g) ⌝ }
+    requires { ⌜ (a < most-names) × (b < most-names) × (m < 2048) × Small (now g) × Square (now g) ⌝ }
     ensures added { λ _. ⌜ Added (now (g .entry)) a b (In m) (now (g .exit)) ⌝ }
     ensures square { λ _. ⌜ Square (now (g .exit)) ⌝ }
 {
@@ -38,47 +39,25 @@ pub fn put_labels(g: &mut Grid, a: usize, b: usize, m: u16)
     g[a][b] = old | k;
 }
 
-// The grid with the pair (a, b) added for each label of m with which it is kept.
-pub fn with_labels(g: Grid, a: usize, b: usize, m: u16) -> Grid
-    requires { ⌜ (a < 16) × (b < 16) × (m < 2048) × Small g ⌝ }
-    ensures { λ r. ⌜ Added g a b (In m) r ⌝ }
-{
-    let k = kept(a, b, m);
-    let mut next = g;
-    let old = next[a][b];
-    next[a][b] = old | k;
-    next
-}
-
-// The grid with the pair (a, b) labelled l added, if it is kept.
-pub fn with_pair(g: Grid, a: usize, b: usize, l: usize) -> Grid
-    requires { ⌜ (a < 16) × (b < 16) × (l < 11) × Small g ⌝ }
-    ensures { λ r. ⌜ Added g a b (λ k. k ≡ labelOf l) r ⌝ }
-{
-    with_labels(g, a, b, 1u16 << (l as u16))
-}
-
 // The grid with each pair that follows.
 pub fn close(g: Grid) -> Grid
     requires { ⌜ Small g × AllKept g ⌝ }
     ensures { λ r. ⌜ Closure g r ⌝ }
 {
-    let u = planes::labels(g);
-    let c = rows::any(u);
-    let p = planes::planes(&g, u, c);
-    let q = closing::closed(p, c);
-    closing::with_planes(g, &q, c | 1024)
+    let mut next = g;
+    closing::close_in(&mut next);
+    next
 }
 
-// The lowest name with a ring, or 16.
+// The lowest name with a ring, or MOST_NAMES.
 pub fn ring_name(g: Grid) -> usize
     ensures { λ r. ⌜ LowestRing g r ⌝ }
 {
-    for x in 0..16usize {
+    for x in 0..MOST_NAMES {
         let m = g[x][x];
         if (m >> 10) % 2 == 1 {
             return x;
         }
     }
-    16
+    MOST_NAMES
 }

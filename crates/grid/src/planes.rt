@@ -2,20 +2,25 @@
 ghost use mathlib.Core.Path.{_≡_};
 ghost use Prim.Native.Nat.{_<_};
 ghost use Rattle.grid.specs.Rows.{Has, Edge, SomeRow, Same, Bits};
-ghost use Rattle.grid.specs.Planes.{Labelled, RowLabels, PlanesOf, Within, Chosen, Clashing, MixOf};
+ghost use Rattle.grid.specs.Grid.{Square};
+ghost use Rattle.grid.specs.Planes.{Labelled, RowLabels, Sole, PlanesOf, Within, Chosen, Clashing, MixOf};
 use crate::Grid;
 use crate::rows;
 use crate::rows::Rows;
+use rules::LABELS;
+use rules::SEVERAL;
+use table::limits::MOST_NAMES;
 
 // Plane l: the pairs with label l, each from its second name to its first.
-pub type Planes = [[u16; 16]; 11];
+pub type Planes = [[u16; MOST_NAMES]; LABELS];
 
 // The labels of the pairs from each name.
-pub fn labels(g: Grid) -> Rows
-    ensures { λ t. ⌜ Same (Edge t) (RowLabels g) ⌝ }
+pub fn labels(g: &Grid) -> Rows
+    requires { ⌜ Square (now g) ⌝ }
+    ensures { λ t. ⌜ Same (Edge t) (RowLabels (now (g .entry))) ⌝ }
 {
-    let mut next = [0u16; 16];
-    for i in 0..16usize {
+    let mut next = [0u16; MOST_NAMES];
+    for i in 0..MOST_NAMES {
         let row = g[i];
         let m = rows::any(row);
         if m != 0 {
@@ -25,13 +30,27 @@ pub fn labels(g: Grid) -> Rows
     next
 }
 
+// The one label of a mask, if it is own or a fork; else 9.
+pub fn sole(c: u16) -> usize
+    ensures { λ l. ⌜ Sole c l ⌝ }
+{
+    let n = u16::trailing_zeros(c);
+    let l = n as usize;
+    if l < 9 {
+        if c == 1u16 << (l as u16) {
+            return l;
+        }
+    }
+    9
+}
+
 // The pairs that label l has; u has the labels of the pairs from each name.
 pub fn plane(g: &Grid, u: Rows, l: usize) -> Rows
     requires { ⌜ (l < 11) × Same (Edge u) (RowLabels (now g)) ⌝ }
     ensures { λ t. ⌜ Same (Edge t) (Labelled (now (g .entry)) l) ⌝ }
 {
-    let mut next = [0u16; 16];
-    for i in 0..16usize {
+    let mut next = [0u16; MOST_NAMES];
+    for i in 0..MOST_NAMES {
         let m = u[i];
         if (m >> (l as u16)) % 2 == 1 {
             let row = g[i];
@@ -47,8 +66,8 @@ pub fn planes(g: &Grid, u: Rows, c: u16) -> Planes
     requires { ⌜ Same (Edge u) (RowLabels (now g)) × Bits c (SomeRow u) ⌝ }
     ensures { λ t. ⌜ PlanesOf (now (g .entry)) t ⌝ }
 {
-    let mut next = [[0u16; 16]; 11];
-    for l in 0..11usize {
+    let mut next = [[0u16; MOST_NAMES]; LABELS];
+    for l in 0..LABELS {
         if (c >> (l as u16)) % 2 == 1 {
             let t = plane(g, u, l);
             next[l] = t;
@@ -61,8 +80,8 @@ pub fn planes(g: &Grid, u: Rows, c: u16) -> Planes
 pub fn chosen(p: &Planes, c: u16) -> Rows
     ensures { λ t. ⌜ Same (Edge t) (Chosen (now (p .entry)) c) ⌝ }
 {
-    let mut next = [0u16; 16];
-    for l in 0..11usize {
+    let mut next = [0u16; MOST_NAMES];
+    for l in 0..LABELS {
         if (c >> (l as u16)) % 2 == 1 {
             let q = p[l];
             let t = rows::union(next, q);
@@ -90,7 +109,7 @@ pub fn clashing(l: usize, c: u16) -> u16
     ensures { λ t. ⌜ Bits t (λ m. Has c m × Clashing l m) ⌝ }
 {
     let mut t: u16 = 0;
-    for m in 0..11usize {
+    for m in 0..LABELS {
         if (c >> (m as u16)) % 2 == 1 {
             t = t | clash(l, m);
         }
@@ -103,8 +122,8 @@ pub fn mixed(p: &Planes, c: u16) -> Rows
     requires { ⌜ Within (now p) c ⌝ }
     ensures { λ t. ⌜ Same (Edge t) (MixOf (now (p .entry))) ⌝ }
 {
-    let mut next = p[10];
-    for l in 0..11usize {
+    let mut next = p[SEVERAL];
+    for l in 0..LABELS {
         if (c >> (l as u16)) % 2 == 1 {
             let q = p[l];
             let o = chosen(p, clashing(l, c));

@@ -16,13 +16,13 @@ use Rattle.rules.specs.Number.{labelOf}
 use Rattle.rules.specs.Model.{renamed}
 use Rattle.grid.specs.Rows.{Has, Bits}
 use Rattle.grid.specs.Grid.{In, Small, Added}
-use Rattle.grid.specs.laws.Masks.{has-zero, below-bits, bits-or, bits-shl}
-use Rattle.pairs.specs.Walks.{heldBy, argOf, holderOf, threadOf}
+use Rattle.grid.specs.laws.Masks.{has-zero, below-bits, bits-or, bits-one, bits-shl}
+use Rattle.grid.specs.laws.Labels.{in-one, one-in}
+use Rattle.pairs.specs.Walks.{heldBy}
 use Rattle.pairs.specs.Gains.{LockGives, CallGives, Gains, namesAt, Low, MaskGives, Placed}
 use Rattle.rows.specs.Model.{Labelled, RowBits}
-use Rattle.pairs.specs.Gains.{CellGives, RowGives, RowReady, CallReady}
+use Rattle.pairs.specs.Gains.{Below, CellGives, LineGives, RowGives, RowReady, CallReady}
 use Rattle.pairs.proofs.Steps.{held-name}
-use Rattle.pairs.specs.declared.walk.Walk.{Walk}
 
 pub gains-none : (g : List (List ℕ)) (N : ℕ → ℕ → Label → Type 0) → Small g → ((a b : ℕ) (l : Label) → N a b l → ⊥)
     → Gains g N g
@@ -88,13 +88,18 @@ cell-gains a b m ha hb p =
     (λ x y l w. (held-same a x ha (w .0), held-same b y hb (w .1), w .2))
     (gains-added p)
 
-pub lock-gains : {g r : List (List ℕ)} (h x t : ℕ) → h < 16 → Added g h x (λ k. k ≡ labelOf t) r
-    → Gains g (LockGives x (labelOf t) (heldBy h)) r
-lock-gains h x t k p =
+-- the mask of the thread that a LOCK is in, as the code works it out
+pub lock-mask : (t : ℕ) → t ≤ 8 → 1 * 2 ^ t % 65536 < 2048
+lock-mask t l = below-bits 11 _ (omega arith) (λ j h. let e = bits-one t (omega arith) .to j h in omega arith)
+
+pub lock-gains : {g r : List (List ℕ)} (h x t : ℕ) → x < 16 → t ≤ 8
+    → Gains g (MaskGives (heldBy h) (heldBy x) (1 * 2 ^ t % 65536)) r → Gains g (LockGives x (labelOf t) (heldBy h)) r
+lock-gains h x t k n p =
+    let o = bits-one t (omega arith) in
     gains-map
-    (λ a b l w. (held-name h k ∙ ap some (sym (w .0)), w .1, w .2))
-    (λ a b l w. (held-same h a k (w .0), w .1, w .2))
-    (gains-added p)
+    (λ a b l w. (w .0, held-same x b k (w .1), in-one _ t l o (w .2)))
+    (λ a b l w. (w .0, held-name x k ∙ ap some (sym (w .1)), one-in _ t l (omega arith) o (w .2)))
+    p
 
 -- the i-th name of a list
 pub name-some : (xs : List ℕ) (i : ℕ) → i < length xs → getElem? xs i ≡ some (getD xs i 0)
@@ -192,68 +197,78 @@ no-label v own e h = has-zero 0 (rw e at h)
 no-label v unknown e h = has-zero 1 (rw e at h)
 no-label v several e h = has-zero 2 (rw e at h)
 
-module _ (rows : List ℕ) (first : ℕ) (xs : List ℕ) (θ : Label) (h : Option ℕ) where
-  pub cells-none : (g : List (List ℕ)) → Small g → Gains g (RowGives rows first xs θ h 0) g
-  cells-none g s = gains-none g _ s (λ a b l w. let z = w .1 in omega arith)
+-- the gains one after another
+pub below-none : (N : ℕ → ℕ → ℕ → Label → Type 0) (g : List (List ℕ)) → Small g → Gains g (Below N 0) g
+below-none N g s = gains-none g _ s (λ a b l w. let z = w .1 in omega arith)
 
-  cells-more : {g n r : List (List ℕ)} (j : ℕ) → Gains g (RowGives rows first xs θ h j) n
-      → Gains n (CellGives rows first xs θ h j) r → Gains g (RowGives rows first xs θ h (j + 1)) r
-  cells-more j p q =
+pub below-more : (N : ℕ → ℕ → ℕ → Label → Type 0) {g n r : List (List ℕ)} (j : ℕ) → Gains g (Below N j) n
+    → Gains n (N j) r → Gains g (Below N (j + 1)) r
+below-more N j p q =
+    gains-map
+    (λ a b l w. ⊎-elim (λ z. let y = z .1 in (z .0, omega arith, z .2)) (λ z. (j, omega arith, z)) w)
+    (λ a b l w.
+    elim (decLt (w .0) j) [
+      | yes z ↦ inl (w .0, z, w .2)
+      | no z ↦ let y = w .1 in let e : w .0 ≡ j = omega arith in inr (rw e at (w .2))
+    ])
+    (gains-then p q)
+
+module _ (rows : List ℕ) (first : ℕ) (xs : List ℕ) (t : ℕ) (h : Option ℕ) where
+  pub cell-skip : (p : Option ℕ) (j : ℕ) (g : List (List ℕ)) → Small g → getD rows (first + j) 0 ≡ 0
+      → Gains g (CellGives rows first xs (labelOf t) h p j) g
+  cell-skip p j g s e = gains-none g _ s (λ a b l w. no-label _ (w .2 .0) e (w .2 .1))
+
+  pub cell-next : {g r : List (List ℕ)} (p : Option ℕ) (j b m : ℕ) → heldBy b ≡ renamed h xs j
+      → Placed (getD rows (first + j) 0) t m → Gains g (MaskGives p (heldBy b) m) r
+      → Gains g (CellGives rows first xs (labelOf t) h p j) r
+  cell-next p j b m eb q w =
       gains-map
-      (λ a b l w. ⊎-elim (λ z. let y = z .1 in (z .0, omega arith, z .2)) (λ z. (j, omega arith, z)) w)
-      (λ a b l w.
-      elim (decLt (w .0) j) [
-        | yes z ↦ inl (w .0, z, w .2)
-        | no z ↦ let y = w .1 in let e : w .0 ≡ j = omega arith in inr (rw e at (w .2))
-      ])
-      (gains-then p q)
+      (λ x y l z. (z .0, sym eb ∙ z .1, q .only l (z .2)))
+      (λ x y l z. (z .0, eb ∙ z .1, rw (z .2 .2) (q .all (z .2 .0) (z .2 .1))))
+      w
 
-  pub cells-skip : {g n : List (List ℕ)} (j : ℕ) → Gains g (RowGives rows first xs θ h j) n
-      → getD rows (first + j) 0 ≡ 0 → Gains g (RowGives rows first xs θ h (j + 1)) n
-  cells-skip {g} {n} j p e = cells-more j p (gains-none n _ (p .small) (λ a b l w. no-label _ (w .2 .0) e (w .2 .1)))
+  pub line-skip : (i n a : ℕ) (g : List (List ℕ)) → Small g → heldBy a ≡ renamed h xs i → 16 ≤ a
+      → Gains g (LineGives rows (first + 8 * i) xs (labelOf t) h (renamed h xs i) n) g
+  line-skip i n a g s e l = gains-none g _ s (λ x y k w. held-never a x l (e ∙ w .2 .0))
 
-pub cells-next : (rows : List ℕ) (first : ℕ) (xs : List ℕ) (t : ℕ) (h : Option ℕ) {g n r : List (List ℕ)}
-    (j a b m : ℕ)
-    → Gains g (RowGives rows first xs (labelOf t) h j) n → heldBy a ≡ renamed h xs (j / 8) → heldBy b ≡ renamed h xs
-    (j % 8)
-    → Placed (getD rows (first + j) 0) t m → Gains n (MaskGives (heldBy a) (heldBy b) m) r
-    → Gains g (RowGives rows first xs (labelOf t) h (j + 1)) r
-cells-next rows first xs t h j a b m p ea eb q w =
-    cells-more rows first xs (labelOf t) h j p
-    (gains-map
-    (λ x y l z. (sym ea ∙ z .0, sym eb ∙ z .1, q .only l (z .2)))
-    (λ x y l z. (ea ∙ z .0, eb ∙ z .1, rw (z .2 .2) (q .all (z .2 .0) (z .2 .1))))
-    w)
+  pub line-next : {g r : List (List ℕ)} (i n a : ℕ) → heldBy a ≡ renamed h xs i
+      → Gains g (LineGives rows (first + 8 * i) xs (labelOf t) h (heldBy a) n) r
+      → Gains g (LineGives rows (first + 8 * i) xs (labelOf t) h (renamed h xs i) n) r
+  line-next {g} {r} i n a e p =
+      subst (λ (v : Option ℕ). Gains g (LineGives rows (first + 8 * i) xs (labelOf t) h v n) r) e p
+
+-- a line of a row that can be recorded
+pub line-ready : (s : List ℕ) (at k : ℕ) (rows : List ℕ) (first t i : ℕ) → i ≤ k → RowReady s at k rows first 64 t
+    → RowReady s at k rows (first + 8 * i) 8 t
+line-ready s at k rows first t i l p =
+    let a = p .params in
+    let b = p .long in
+    record { there = p .there; params = p .params; names = p .names; long = omega arith; thread = p .thread }
 
 -- all cells of the row
-pub cells-all : (rows : List ℕ) (r k j : ℕ) (xs : List ℕ) (θ : Label) (h : Option ℕ) {g n : List (List ℕ)}
-    → k ≤ 7 → length xs ≡ k → j ≡ 8 * k + 8 → Gains g (RowGives rows (65 * r) xs θ h j) n
+cells-all : (rows : List ℕ) (r k : ℕ) (xs : List ℕ) (θ : Label) (h : Option ℕ) {g n : List (List ℕ)}
+    → k ≤ 7 → length xs ≡ k → Gains g (RowGives rows (65 * r) xs θ h (k + 1) (k + 1)) n
     → Gains g (CallGives (RowBits rows) r xs θ h) n
-cells-all rows r k j xs θ h lk lx ej p =
+cells-all rows r k xs θ h lk lx p =
     gains-map
     (λ a b l w.
-    let i = w .0 in
-    let z = w .1 in
-    let e : 65 * r + 8 * (i / 8) + i % 8 ≡ 65 * r + i = omega arith in
-    (i / 8, i % 8, w .2 .2 .0, (omega arith, omega arith, rw e (w .2 .2 .1)), w .2 .0, w .2 .1, w .2 .2 .2))
+    let y = w .1 in
+    let c = w .2 in
+    let z = c .1 in
+    (w .0, c .0, c .2 .2 .0, (omega arith, omega arith, c .2 .2 .1), c .2 .0, c .2 .1, c .2 .2 .2))
     (λ a b l w.
-    let a₀ = w .0 in
-    let b₀ = w .1 in
-    let z = renamed-within h xs a₀ a (w .4) in
-    let y = w .3 .1 in
-    let e : (8 * a₀ + b₀) / 8 ≡ a₀ = omega arith in
-    let f : (8 * a₀ + b₀) % 8 ≡ b₀ = omega arith in
-    let d : 65 * r + (8 * a₀ + b₀) ≡ 65 * r + 8 * a₀ + b₀ = omega arith in
-    (8 * a₀ + b₀, omega arith, (rw e (w .4), rw f (w .5), (w .2, rw d (w .3 .2), w .6))))
+    let y = renamed-within h xs (w .0) a (w .4) in
+    let z = renamed-within h xs (w .1) b (w .5) in
+    (w .0, omega arith, (w .1, omega arith, (w .4, w .5, (w .2, w .3 .2, w .6)))))
     p
 
 -- the row of a call, with the numbers that the code reads for it
-module _ (ks s rows : List ℕ) (w : Walk) (ready : CallReady ks s rows w) (q k t : ℕ) (eq : q ≡ argOf s w)
-    (ek : k ≡ getD ks q 0) (et : t ≡ threadOf w) where
-  count-is : k ≡ getD ks (argOf s w) 0
+module _ (ks s rows : List ℕ) (at t : ℕ) (ready : CallReady ks s rows at t) (q k : ℕ) (eq : q ≡ getD s (at + 1) 0)
+    (ek : k ≡ getD ks q 0) where
+  count-is : k ≡ getD ks (getD s (at + 1) 0) 0
   count-is = ek ∙ ap (λ (v : ℕ). getD ks v 0) eq
 
-  pub row-ready : RowReady s (w .at + 2) k rows (65 * q) t
+  pub row-ready : RowReady s (at + 2) k rows (65 * q) 64 t
   row-ready =
       let a = ready .routine in
       let b = ready .long in
@@ -262,21 +277,15 @@ module _ (ks s rows : List ℕ) (w : Walk) (ready : CallReady ks s rows w) (q k 
         params = rw count-is (ready .params);
         names = rw count-is (ready .names);
         long = omega arith;
-        thread = rw et (ready .thread);
+        thread = ready .thread;
       }
 
-  pub row-gains : {g r : List (List ℕ)} (h : ℕ) → h ≡ holderOf w
-      → Gains g (RowGives rows (65 * q) (namesAt s (w .at + 2) k) (labelOf t) (heldBy h) (8 * k + 8)) r
-      → Gains g (CallGives (RowBits rows) (argOf s w) (namesAt s (w .at + 2) (getD ks (argOf s w) 0))
-      (labelOf (threadOf w))
-      (heldBy (holderOf w))) r
-  row-gains {g} {r} h eh p =
-      let f = ap (λ (v : ℕ). 8 * v + 8) count-is in
-      let named : Gains g
-      (RowGives rows (65 * q) (namesAt s (w .at + 2) (getD ks (argOf s w) 0)) (labelOf t) (heldBy h)
-      (8 * k + 8)) r =
+  pub row-gains : {g r : List (List ℕ)} (h : ℕ)
+      → Gains g (RowGives rows (65 * q) (namesAt s (at + 2) k) (labelOf t) (heldBy h) (k + 1) (k + 1)) r
+      → Gains g (CallGives (RowBits rows) (getD s (at + 1) 0)
+      (namesAt s (at + 2) (getD ks (getD s (at + 1) 0) 0)) (labelOf t) (heldBy h)) r
+  row-gains {g} {r} h p =
       subst (λ (v : ℕ). Gains g
-      (RowGives rows (65 * q) (namesAt s (w .at + 2) v) (labelOf t) (heldBy h) (8 * k + 8)) r)
-      count-is p in
-      cells-all rows (argOf s w) (getD ks (argOf s w) 0) (8 * k + 8) _ _ _ (ready .params)
-      (names-length s (w .at + 2) _ (ready .there)) f (rw (eq, et, eh) at named)
+      (CallGives (RowBits rows) v (namesAt s (at + 2) (getD ks v 0)) (labelOf t) (heldBy h)) r) eq
+      (subst (λ (v : ℕ). Gains g (CallGives (RowBits rows) q (namesAt s (at + 2) v) (labelOf t) (heldBy h)) r) ek
+      (cells-all rows q k _ _ _ (row-ready .params) (names-length s (at + 2) k (row-ready .there)) p))

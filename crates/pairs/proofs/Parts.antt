@@ -3,7 +3,6 @@ use mathlib.Core.Logic.{_⊎_, inl, inr}
 use mathlib.Core.List.{List, _∷_}
 use mathlib.Core.Option.{Option, none, some}
 use Prim.Native.Nat.{ℕ}
-use Rattle.table.specs.Constants.{code}
 use Rattle.table.specs.Program.{Code, end, new, lock, fork, choice, call}
 use Rattle.rules.specs.Label.{Label}
 use Rattle.rules.specs.laws.Satisfies.{Pairs}

@@ -13,9 +13,8 @@ use Rattle.rules.specs.Number.{labelOf}
 use Rattle.rules.specs.Verdict.{Calls}
 use Rattle.rules.specs.laws.Satisfies.{Pairs, RecordedFrom}
 use Rattle.pairs.specs.Fine.{Named, ForksFrom}
-use Rattle.pairs.specs.Walks.{heldBy}
+use Rattle.pairs.specs.Walks.{Walk, heldBy}
 use Rattle.pairs.specs.Gains.{LockGives, CallGives}
-use Rattle.pairs.specs.declared.walk.Walk.{Walk}
 
 -- an open level: the code that is left, in a first alternative the second one, the thread and the holder
 pub data Level : Type 0 where

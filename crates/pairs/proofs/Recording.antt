@@ -17,18 +17,16 @@ use Rattle.rules.specs.Model.{Kept}
 use Rattle.rules.specs.laws.Satisfies.{Pairs, RecordedFrom}
 use Rattle.grid.specs.Grid.{Pair, Small, AllKept, Empty}
 use Rattle.pairs.specs.Fine.{Fine, IsBody}
-use Rattle.pairs.specs.Walks.{Ready, heldBy, byteOf, argOf, holderOf, threadOf, startWalk, nextWalk}
+use Rattle.pairs.specs.Walks.{Walk, Ready, heldBy, byteOf, argOf, holderOf, threadOf, startWalk, nextWalk}
 use Rattle.pairs.specs.Gains.{Gains, LockGives, CallGives, Low, namesAt, LockReady, CallReady}
 use Rattle.rows.specs.Model.{RowBits}
 use Rattle.pairs.proofs.Pending.{Level, level, bytes, secondBytes, closer, past, Left, InLeft, AtItem, PairIn}
 use Rattle.pairs.proofs.Pending.{PairAt}
 use Rattle.pairs.specs.Contracts.{Records}
 use Rattle.pairs.proofs.Steps.{Going, begins, place-there, ready, step, shrinks, none-left}
-use Rattle.pairs.proofs.Steps.{at-kind, quiet, top-entry, byte-at}
-use Rattle.pairs.proofs.Steps.{few-levels}
+use Rattle.pairs.proofs.Steps.{at-kind, quiet, top-entry, byte-at, few-levels}
 use Rattle.pairs.proofs.Gaining.{gains-none, gains-map}
 use Rattle.pairs.proofs.Parts.{left-past, past-left, pair-parts, parts-pair, pair-at}
-use Rattle.pairs.specs.declared.walk.Walk.{Walk}
 
 -- each entry of a list of names below 16 is below 16
 low-names : (xs : List ℕ) → ((x : ℕ) → In x xs → x < 16) → Low xs
@@ -95,7 +93,7 @@ names-are s t xs z y at r e =
     ∙ take-at xs ((z ++ y) ++ t) (length xs) refl
 
 module _ (ks s t : List ℕ) (w : Walk) where
-  lock-ready : (ls : List Level) → Left ks s t w ls → byteOf s w ≡ code LOCK → LockReady s w
+  lock-ready : (ls : List Level) → Left ks s t w ls → byteOf s w ≡ code LOCK → LockReady s (w .at) (threadOf w)
   lock-ready ls p e =
       let v = at-kind ks s t w LOCK ls p e in
       let p′ : Left ks s t w (level (lock (v .0) (v .1) (v .2)) (v .3) (v .4) (v .5) ∷ v .6) = rw (v .7) at p in
@@ -103,7 +101,6 @@ module _ (ks s t : List ℕ) (w : Walk) where
       record {
         there = ready ks s t w ls p (λ f. absurd (omega arith)) .kind LOCK e .0;
         name = rw x (p′ .levels .0 .named .0);
-        entries = few-levels ks s t w ls p;
         thread = top-entry ks s t w _ _ _ _ _ p′ .low;
       }
 
@@ -126,7 +123,7 @@ module _ (ks s t : List ℕ) (w : Walk) where
 
   call-ready : (rows : List ℕ) (ls : List Level) → Left ks s t w ls → byteOf s w ≡ code CALL → 65 * length ks ≤
       length rows
-      → CallReady ks s rows w
+      → CallReady ks s rows (w .at) (threadOf w)
   call-ready rows ls p e long =
       let v = at-kind ks s t w CALL ls p e in
       let p′ : Left ks s t w (level (call (v .0) (v .1) (v .2)) (v .3) (v .4) (v .5) ∷ v .6) = rw (v .7) at p in
@@ -139,7 +136,6 @@ module _ (ks s t : List ℕ) (w : Walk) where
         routine = d .1;
         params = rw k (n .2);
         names = rw (names-at-call _ _ _ _ _ _ _ p′) (low-names (v .1) (n .3));
-        entries = few-levels ks s t w ls p;
         thread = top-entry ks s t w _ _ _ _ _ p′ .low;
         long = long;
       }
@@ -156,13 +152,16 @@ module _ (ks s t : List ℕ) (w : Walk) where
       (v .5) x
       (names-at-call _ _ _ _ _ _ _ p′) (y .thread) (y .holder) q)
 
-module _ (ks s : List ℕ) (at : ℕ) (rows : List ℕ) (w : Walk) (g : List (List ℕ)) (p : Recording ks s at rows w g)
+module _ {ks s : List ℕ} {at : ℕ} {rows : List ℕ} {w : Walk} {g : List (List ℕ)} (p : Recording ks s at rows w g)
     (body : IsBody ks s at) where
   abbrev here : Recorded ks s rows (body .0) (body .1) w g
   here = p .each (body .0) (body .1) (body .2) (body .3)
 
   pub record-there : w .at < length s
   record-there = place-there ks s (body .1) w (here .levels) (here .left)
+
+  pub record-entries : w .top ≤ 16
+  record-entries = few-levels ks s (body .1) w (here .levels) (here .left)
 
   pub record-ready : Going s w → Ready ks s w
   record-ready h = ready ks s (body .1) w (here .levels) (here .left) h
@@ -172,10 +171,10 @@ module _ (ks s : List ℕ) (at : ℕ) (rows : List ℕ) (w : Walk) (g : List (Li
       shrinks ks s (body .1) w (nextWalk ks s w) (here .levels) (here .left)
       (step ks s (body .1) w (here .levels) (here .left) h)
 
-  pub record-lock-ready : byteOf s w ≡ code LOCK → LockReady s w
+  pub record-lock-ready : byteOf s w ≡ code LOCK → LockReady s (w .at) (threadOf w)
   record-lock-ready e = lock-ready ks s (body .1) w (here .levels) (here .left) e
 
-  pub record-call-ready : byteOf s w ≡ code CALL → 65 * length ks ≤ length rows → CallReady ks s rows w
+  pub record-call-ready : byteOf s w ≡ code CALL → 65 * length ks ≤ length rows → CallReady ks s rows (w .at) (threadOf w)
   record-call-ready e l = call-ready ks s (body .1) w rows (here .levels) (here .left) e l
 
   record-next : (r : List (List ℕ)) → Going s w

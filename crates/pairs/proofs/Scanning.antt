@@ -19,13 +19,13 @@ use Rattle.rules.specs.Verdict.{Calls}
 use Rattle.grid.specs.Rows.{Has, Bits}
 use Rattle.grid.specs.laws.Masks.{has-zero, has-pow, pow-has, bits-self, bits-map}
 use Rattle.pairs.specs.Fine.{Fine, IsBody}
-use Rattle.pairs.specs.Walks.{IsOver, Ready, byteOf, argOf, startWalk, nextWalk}
-use Rattle.pairs.proofs.Pending.{Level, level, bytes, past, Left, InLeft, AtItem, CallIn, CallAt}
+use Rattle.pairs.specs.Walks.{Walk, IsOver, Ready, Passable, LevelReady, byteOf, argOf, startWalk, nextWalk}
+use Rattle.pairs.specs.Walks.{pastItem, topBy}
+use Rattle.pairs.proofs.Pending.{Level, level, past, Left, InLeft, AtItem, CallIn, CallAt}
 use Rattle.pairs.specs.Contracts.{Scans}
 use Rattle.pairs.proofs.Steps.{Going, begins, place-there, ready, step, shrinks, none-left, end-met}
-use Rattle.pairs.proofs.Steps.{call-met, call-here}
+use Rattle.pairs.proofs.Steps.{call-met, call-here, ready-pass, ready-level, next-place}
 use Rattle.pairs.proofs.Parts.{left-past, past-left, call-parts, parts-call, call-at}
-use Rattle.pairs.specs.declared.walk.Walk.{Walk}
 
 -- the bit of q, as `1 << q`
 pub bit-wide : (q : ℕ) → q < 64 → Bits (1 * 2 ^ q % 18446744073709551616) (λ j. j ≡ q)
@@ -53,8 +53,21 @@ pub record Scanning (ks s : List ℕ) (at : ℕ) (w : Walk) (calls : ℕ) : Type
   pub each : (c : Code) (t : List ℕ) → Fine ks c → drop at s ≡ encode END c ++ t → Scanned ks s c t w calls
   pub listed : (q : ℕ) → Has calls q → q < length ks
 
-pub scan-start : (ks s : List ℕ) (at : ℕ) → Scanning ks s at (startWalk at) 0
-scan-start ks s at = record {
+-- the same at an offset with an innermost open level, which are those of some walk
+pub record ScanningAt (ks s : List ℕ) (at i top calls : ℕ) : Type 0 where
+  pub forks : ℕ
+  pub holders : List ℕ
+  pub threads : List ℕ
+  pub scanning : Scanning ks s at
+      (record { at = i; forks = forks; top = top; holders = holders; threads = threads }) calls
+
+scan-at : (ks s : List ℕ) (at i top calls : ℕ) (w : Walk) → w .at ≡ i → w .top ≡ top → Scanning ks s at w calls
+    → ScanningAt ks s at i top calls
+scan-at ks s at i top calls w e f p =
+    rw (← e, ← f) (record { forks = w .forks; holders = w .holders; threads = w .threads; scanning = p })
+
+pub scan-start : (ks s : List ℕ) (at : ℕ) → ScanningAt ks s at at 0 0
+scan-start ks s at = scan-at ks s at at 0 0 (startWalk at) refl refl (record {
   each = λ c t f e. record {
     levels = level c none own (some 0) ∷ [];
     left = begins ks s t at c f e;
@@ -63,24 +76,37 @@ scan-start ks s at = record {
     all = λ q h. inr (inl h);
   };
   listed = λ q h. absurd (has-zero q h);
-}
+})
 
-module _ (ks s : List ℕ) (at : ℕ) (w : Walk) (calls : ℕ) (p : Scanning ks s at w calls) where
-  pub scan-there : IsBody ks s at → w .at < length s
+module _ {ks s : List ℕ} {at i top calls : ℕ} (scan : ScanningAt ks s at i top calls) where
+  abbrev w : Walk
+  w = record { at = i; forks = scan .forks; top = top; holders = scan .holders; threads = scan .threads }
+
+  abbrev p : Scanning ks s at w calls
+  p = scan .scanning
+
+  pub scan-there : IsBody ks s at → i < length s
   scan-there b = let z = p .each (b .0) (b .1) (b .2) (b .3) in place-there ks s (b .1) w (z .levels) (z .left)
 
-  pub scan-ready : IsBody ks s at → Going s w → Ready ks s w
+  scan-ready : IsBody ks s at → Going s w → Ready ks s w
   scan-ready b g = let z = p .each (b .0) (b .1) (b .2) (b .3) in ready ks s (b .1) w (z .levels) (z .left) g
 
-  pub scan-less : IsBody ks s at → Going s w → length s - nextWalk ks s w .at < length s - w .at
+  pub scan-pass : IsBody ks s at → Going s w → Passable ks s i
+  scan-pass b g = ready-pass ks s w (scan-ready b g)
+
+  pub scan-level : IsBody ks s at → Going s w → LevelReady (byteOf s w) top
+  scan-level b g = ready-level ks s w (scan-ready b g)
+
+  pub scan-less : IsBody ks s at → Going s w → length s - pastItem ks s i < length s - i
   scan-less b g =
       let z = p .each (b .0) (b .1) (b .2) (b .3) in
-      shrinks ks s (b .1) w (nextWalk ks s w) (z .levels) (z .left) (step ks s (b .1) w (z .levels) (z .left) g)
+      rw (← next-place ks s w .0) (shrinks ks s (b .1) w (nextWalk ks s w) (z .levels) (z .left)
+      (step ks s (b .1) w (z .levels) (z .left) g))
 
   scan-next : (r : ℕ) → Going s w
       → ((t : List ℕ) (ls : List Level) → Left ks s t w ls → Bits r (λ j. Has calls j ⊎ AtItem (CallAt j) ls))
-      → ((q : ℕ) → Has r q → q < length ks) → Scanning ks s at (nextWalk ks s w) r
-  scan-next r g f l = record {
+      → ((q : ℕ) → Has r q → q < length ks) → ScanningAt ks s at (pastItem ks s i) (topBy top (byteOf s w)) r
+  scan-next r g f l = scan-at ks s at _ _ r (nextWalk ks s w) (next-place ks s w .0) (next-place ks s w .1) (record {
     each = λ c t h e.
         let z = p .each c t h e in
         let b = f t (z .levels) (z .left) in
@@ -97,10 +123,10 @@ module _ (ks s : List ℕ) (at : ℕ) (w : Walk) (calls : ℕ) (p : Scanning ks 
               (z .all q i);
         };
     listed = l;
-  }
+  })
 
   pub scan-call : (r : ℕ) → Going s w → byteOf s w ≡ code CALL → argOf s w < length ks
-      → Bits r (λ j. Has calls j ⊎ (j ≡ argOf s w)) → Scanning ks s at (nextWalk ks s w) r
+      → Bits r (λ j. Has calls j ⊎ (j ≡ argOf s w)) → ScanningAt ks s at (pastItem ks s i) (topBy top (byteOf s w)) r
   scan-call r g e l b =
       scan-next r g
       (λ t ls q. bits-map
@@ -108,14 +134,15 @@ module _ (ks s : List ℕ) (at : ℕ) (w : Walk) (calls : ℕ) (p : Scanning ks 
       (λ j. ⊎-elim (λ z. inl z) (λ z. inr (call-met ks s t w j ls q z .1))) b)
       (λ q h. ⊎-elim (p .listed q) (λ z. rw z l) (b .to q h))
 
-  pub scan-other : Going s w → (byteOf s w ≡ code CALL → ⊥) → Scanning ks s at (nextWalk ks s w) calls
+  pub scan-other : Going s w → (byteOf s w ≡ code CALL → ⊥)
+      → ScanningAt ks s at (pastItem ks s i) (topBy top (byteOf s w)) calls
   scan-other g n =
       scan-next calls g
       (λ t ls q. bits-map (λ j z. inl z) (λ j. ⊎-elim (λ z. z) (λ z. absurd (n (call-met ks s t w j ls q z .0))))
       (bits-self calls))
       (p .listed)
 
-  pub scan-end : byteOf s w ≡ code END → w .top ≡ 0 → Scans ks s at (w .at + 1) calls
+  pub scan-end : byteOf s w ≡ code END → top ≡ 0 → Scans ks s at (i + 1) calls
   scan-end e n = record {
     ends = λ c t f h. let z = p .each c t f h in end-met ks s t w (z .levels) (z .left) e n at c f h;
     only = λ c t f h. p .each c t f h .met;

@@ -1,13 +1,15 @@
 -- One item of a body: its bytes, what it needs to be passed, and what is left past it.
 use mathlib.Core.Path.{_≡_, refl, sym, ap, subst, _∙_}
 use mathlib.Core.Logic.{⊎-elim}
+use mathlib.Core.Bool.{Bool, true, false, cond}
 use mathlib.Core.List.{List, [], _∷_, _++_, append-assoc, append-nil}
 use mathlib.Core.Option.{Option, none, some}
 use Prim.Native.Nat.{ℕ, suc, _+_, _-_, _≤_, _<_}
 use native.Mathlib.Omega.{arith}
 use lib.ListN.{length, getD, set, drop, length-append, length-drop, length-set}
 use lib.Seq.{drop-drop, drop-at, getD-drop, getD-set-same, getD-set-other}
-use borrow.Author.Tests.{ne-eqb, lt-ltb}
+use lib.Dec.{eqb}
+use borrow.Author.Tests.{ne-eqb, eqb-false, lt-ltb}
 use Rattle.table.specs.Constants.{Op, END, NEW, LOCK, FORK, CHOICE, OTHER, CALL, code, opOf, most-forks}
 use Rattle.table.specs.Program.{Code, end, new, lock, fork, choice, call, forks}
 use Rattle.table.specs.Encoding.{encode}
@@ -16,11 +18,11 @@ use Rattle.rules.specs.Number.{labelOf}
 use Rattle.rules.specs.laws.Number.{label-of-number}
 use Rattle.rules.specs.laws.Satisfies.{Pairs}
 use Rattle.pairs.specs.Fine.{Fine}
-use Rattle.pairs.specs.Walks.{heldBy, byteOf, argOf, threadOf, holderOf, SomeOpen, ReadyAt, Ready}
-use Rattle.pairs.specs.Walks.{startWalk, movedWalk, openedWalk, walkBy, nextWalk}
+use Rattle.pairs.specs.Walks.{Walk, heldBy, byteOf, argOf, threadOf, holderOf, SomeOpen, ReadyAt, Ready}
+use Rattle.pairs.specs.Walks.{startWalk, movedWalk, enteredWalk, passedBy, walkBy, nextWalk, pastBy, pastItem, topBy}
+use Rattle.pairs.specs.Walks.{Passable, LevelReady}
 use Rattle.pairs.proofs.Pending.{Level, level, bytes, itemBytes, past, Part, SecondPart}
 use Rattle.pairs.proofs.Pending.{secondForks, Entry, Levels, Left, InLeft, AtItem, CallAt, PairAt}
-use Rattle.pairs.specs.declared.walk.Walk.{Walk}
 
 -- the bytes left are those of the item and those past it
 pub bytes-past : (ls : List Level) → bytes ls ≡ itemBytes ls ++ bytes (past ls)
@@ -67,10 +69,55 @@ pub by-byte : (ks s : List ℕ) (w : Walk) (b : ℕ) → byteOf s w ≡ b → ne
 unfolding nextWalk
 by-byte ks s w b e = ap (walkBy ks s w) e
 
--- the walk past an item that is no END, LOCK, FORK, CHOICE or CALL
-pub by-rest : (ks s : List ℕ) (w : Walk) (b : ℕ) → (b ≡ 0 → ⊥) → (b ≡ 2 → ⊥) → (b ≡ 3 → ⊥) → (b ≡ 4 → ⊥) → (b ≡ 6 → ⊥)
-    → walkBy ks s w b ≡ movedWalk w (w .at + 1)
-by-rest ks s w b p₀ p₂ p₃ p₄ p₆ = rw (ne-eqb b 0 p₀, ne-eqb b 2 p₂, ne-eqb b 3 p₃, ne-eqb b 4 p₄, ne-eqb b 6 p₆)
+-- the walk past an item that opens no level
+pub by-rest : (ks s : List ℕ) (w : Walk) (b : ℕ) → (b ≡ 2 → ⊥) → (b ≡ 3 → ⊥) → (b ≡ 4 → ⊥)
+    → walkBy ks s w b ≡ passedBy ks s w b
+by-rest ks s w b p₂ p₃ p₄ = rw (ne-eqb b 2 p₂, ne-eqb b 3 p₃, ne-eqb b 4 p₄)
+
+-- the offset past the item, and the innermost level there
+pub next-place : (ks s : List ℕ) (w : Walk)
+    → (nextWalk ks s w .at ≡ pastItem ks s (w .at)) × (nextWalk ks s w .top ≡ topBy (w .top) (byteOf s w))
+unfolding nextWalk
+next-place ks s w = go (byteOf s w) (eqb (byteOf s w) 2) (eqb (byteOf s w) 3) (eqb (byteOf s w) 4) refl refl refl
+  where
+    go : (b : ℕ) (x y z : Bool) → eqb b 2 ≡ x → eqb b 3 ≡ y → eqb b 4 ≡ z
+        → (walkBy ks s w b .at ≡ pastBy ks s (w .at) b) × (walkBy ks s w b .top ≡ topBy (w .top) b)
+    go b true y z e f g = rw e (refl, refl)
+    go b false true z e f g = rw (e, f) (refl, refl)
+    go b false false true e f g = rw (e, f, g) (refl, refl)
+    go b false false false e f g = rw (e, f, g) (refl, refl)
+
+-- what passing the item needs of its bytes and of the level
+pub ready-pass : (ks s : List ℕ) (w : Walk) → Ready ks s w → Passable ks s (w .at)
+ready-pass ks s w r = record { here = r .here; routine = λ e. let z = r .kind CALL e in (z .0, z .1) }
+
+pub ready-level : (ks s : List ℕ) (w : Walk) → Ready ks s w → LevelReady (byteOf s w) (w .top)
+ready-level ks s w r = record { some-open = λ e. r .kind END e; few = r .entries }
+
+-- the offset past an item with the byte b, and the innermost level there
+pub past-byte : (ks s : List ℕ) (at b : ℕ) → getD s at 0 ≡ b → pastItem ks s at ≡ pastBy ks s at b
+past-byte ks s at b e = ap (pastBy ks s at) e
+
+pub top-byte : (top v b : ℕ) → v ≡ b → topBy top v ≡ topBy top b
+top-byte top v b e = ap (topBy top) e
+
+pub past-rest : (ks s : List ℕ) (at b : ℕ) → (b ≡ 2 → ⊥) → (b ≡ 6 → ⊥) → pastBy ks s at b ≡ at + 1
+past-rest ks s at b p₂ p₆ = rw (ne-eqb b 2 p₂, ne-eqb b 6 p₆)
+
+-- the level past an item that opens one, and past one that neither opens nor closes one
+pub top-open : (top b : ℕ) → 2 ≤ b → b ≤ 4 → topBy top b ≡ top + 1
+top-open top b l h = rw (ne-eqb b 0 (λ e. omega arith)) (go (eqb b 2) (eqb b 3) (eqb b 4) refl refl refl)
+  where
+    go : (x y z : Bool) → eqb b 2 ≡ x → eqb b 3 ≡ y → eqb b 4 ≡ z
+        → cond x (top + 1) (cond y (top + 1) (cond z (top + 1) top)) ≡ top + 1
+    go true y z e f g = refl
+    go false true z e f g = refl
+    go false false true e f g = refl
+    go false false false e f g =
+        absurd (let a = eqb-false b 2 e in let c = eqb-false b 3 f in let d = eqb-false b 4 g in omega arith)
+
+pub top-rest : (top b : ℕ) → (b ≡ 0 → ⊥) → (b ≡ 2 → ⊥) → (b ≡ 3 → ⊥) → (b ≡ 4 → ⊥) → topBy top b ≡ top
+top-rest top b p₀ p₂ p₃ p₄ = rw (ne-eqb b 0 p₀, ne-eqb b 2 p₂, ne-eqb b 3 p₃, ne-eqb b 4 p₄)
 
 pub held-name : (x : ℕ) → x < 16 → heldBy x ≡ some x
 held-name x h = rw (lt-ltb x 16 h)
@@ -239,7 +286,7 @@ module _ (ks s t : List ℕ) (w : Walk) where
       → Part ks (suc (length ls)) j c → SecondPart ks (suc (length ls)) (j + forks c) z
       → i ≡ heldBy v → ϑ ≡ labelOf q → q ≤ most-forks
       → Levels ks (w .holders) (w .threads) (j + forks c + secondForks z) (level d u θ h ∷ ls)
-      → Left ks s t (openedWalk w at j v q) (level c z ϑ i ∷ level d u θ h ∷ ls)
+      → Left ks s t (enteredWalk (movedWalk w at (w .top + 1)) j v q) (level c z ϑ i ∷ level d u θ h ∷ ls)
   opens at j v q c d z u θ ϑ h i ls n lh lt r e p p′ eh et lq b = record {
     content = e;
     count = omega arith;
@@ -251,7 +298,7 @@ module _ (ks s t : List ℕ) (w : Walk) where
 
   -- past an item that opens none
   moves : (at : ℕ) (ls ms : List Level) → Left ks s t w ls → drop at s ≡ bytes ms ++ t → length ms ≡ length ls
-      → Levels ks (w .holders) (w .threads) (w .forks) ms → Left ks s t (movedWalk w at) ms
+      → Levels ks (w .holders) (w .threads) (w .forks) ms → Left ks s t (movedWalk w at (w .top)) ms
   moves at ls ms p e n l = record {
     content = e;
     count = n ∙ p .count;
@@ -319,7 +366,7 @@ module _ (ks s t : List ℕ) (w : Walk) where
       let m : forked i ≡ labelOf (w .forks + 1) =
       rw (f .0) (sym (label-of-number (forked (w .forks + 1)) (omega arith, omega arith))) in
       rw (by-byte ks s w 3 e)
-      (opens (w .at + 1) (w .forks + 1) 16 (w .forks + 1) c d none u θ (forked i) h none ls (omega arith)
+      (opens (w .at + 1) (w .forks + 1) _ (w .forks + 1) c d none u θ (forked i) h none ls (omega arith)
       (p .long-holders)
       (p .long-threads) (omega arith) (content-past p)
       (record { named = n .0; few-open = omega arith; numbered = f .1 }) tt

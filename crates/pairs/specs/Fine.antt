@@ -3,7 +3,7 @@ use mathlib.Core.Path.{_≡_}
 use mathlib.Core.List.{List, _++_}
 use Prim.Native.Nat.{ℕ, _+_, _≤_, _<_}
 use lib.ListN.{length, getD, drop}
-use Rattle.table.specs.Constants.{END, most-params, most-open, most-forks}
+use Rattle.table.specs.Constants.{END, most-params, most-open, most-forks, most-names}
 use Rattle.table.specs.Program.{Code, end, new, lock, fork, choice, call, forks}
 use Rattle.table.specs.WellFormed.{In}
 use Rattle.table.specs.Encoding.{encode, depth}
@@ -12,11 +12,11 @@ use Rattle.table.specs.Encoding.{encode, depth}
 abbrev pub Named : List ℕ → Code → Type 0
 Named ks end = Unit {0}
 Named ks (new x c) = Named ks c
-Named ks (lock x c d) = (x < 16) × Named ks c × Named ks d
+Named ks (lock x c d) = (x < most-names) × Named ks c × Named ks d
 Named ks (fork i c d) = Named ks c × Named ks d
 Named ks (choice a b c) = Named ks a × Named ks b × Named ks c
 Named ks (call r xs c) =
-    (r < length ks) × (length xs ≡ getD ks r 0) × (length xs ≤ most-params) × ((x : ℕ) → In x xs → x < 16)
+    (r < length ks) × (length xs ≡ getD ks r 0) × (length xs ≤ most-params) × ((x : ℕ) → In x xs → x < most-names)
     × Named ks c
 
 -- the FORK of the code are numbered in written order, where j of the routine stand before it

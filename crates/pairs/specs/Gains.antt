@@ -3,18 +3,15 @@ use mathlib.Core.Path.{_≡_}
 use mathlib.Core.Logic.{_⊎_}
 use mathlib.Core.List.{List}
 use mathlib.Core.Option.{Option, some}
-use Prim.Native.Nat.{ℕ, _+_, _*_, _/_, _%_, _≤_, _<_}
+use Prim.Native.Nat.{ℕ, _+_, _*_, _≤_, _<_}
 use lib.ListN.{length, getD, take, drop}
-use Rattle.table.specs.Constants.{most-params, most-forks}
-use Rattle.rules.specs.Label.{Label, own, forked, unknown, several, placed}
+use Rattle.table.specs.Constants.{most-params, most-forks, most-names, row-names, row-bytes}
+use Rattle.rules.specs.Label.{Label, placed}
 use Rattle.rules.specs.Number.{labelOf}
 use Rattle.rules.specs.Model.{Kept, renamed}
 use Rattle.rules.specs.laws.Satisfies.{Pairs}
-use Rattle.grid.specs.Rows.{Has}
 use Rattle.rows.specs.Model.{Labelled}
 use Rattle.grid.specs.Grid.{In, Pair, Small, AllKept}
-use Rattle.pairs.specs.Walks.{argOf, threadOf, Entries}
-use Rattle.pairs.specs.declared.walk.Walk.{Walk}
 
 -- what LOCK x records in thread θ with the holder h
 abbrev pub LockGives : ℕ → Label → Option ℕ → ℕ → ℕ → Label → Type 0
@@ -40,7 +37,7 @@ namesAt s at n = take n (drop at s)
 
 -- each name is below 16
 abbrev pub Low : List ℕ → Type 0
-Low xs = (i : ℕ) → getD xs i 0 < 16
+Low xs = (i : ℕ) → getD xs i 0 < most-names
 
 -- the pair of two ends, where there are both, with each label of the mask m
 abbrev pub MaskGives : Option ℕ → Option ℕ → ℕ → ℕ → ℕ → Label → Type 0
@@ -52,37 +49,42 @@ pub record Placed (cell t m : ℕ) : Type 0 where
   pub only : (l : Label) → In m l → (k : Label) × Labelled cell k × (l ≡ placed (labelOf t) k)
   pub all : (k : Label) → Labelled cell k → In m (placed (labelOf t) k)
 
--- the LOCK at the place can be recorded
-pub record LockReady (s : List ℕ) (w : Walk) : Type 0 where
-  pub there : w .at + 1 < length s
-  pub name : argOf s w < 16
-  pub entries : Entries w
-  pub thread : threadOf w ≤ most-forks
+-- the LOCK at the offset can be recorded in the thread with the number t
+pub record LockReady (s : List ℕ) (at t : ℕ) : Type 0 where
+  pub there : at + 1 < length s
+  pub name : getD s (at + 1) 0 < most-names
+  pub thread : t ≤ most-forks
 
--- the CALL at the place can be recorded
-pub record CallReady (ks s rows : List ℕ) (w : Walk) : Type 0 where
-  pub there : w .at + 2 + getD ks (argOf s w) 0 ≤ length s
-  pub routine : argOf s w < length ks
-  pub params : getD ks (argOf s w) 0 ≤ most-params
-  pub names : Low (namesAt s (w .at + 2) (getD ks (argOf s w) 0))
-  pub entries : Entries w
-  pub thread : threadOf w ≤ most-forks
-  pub long : 65 * length ks ≤ length rows
+-- the CALL at the offset can be recorded in the thread with the number t
+pub record CallReady (ks s rows : List ℕ) (at t : ℕ) : Type 0 where
+  pub there : at + 2 + getD ks (getD s (at + 1) 0) 0 ≤ length s
+  pub routine : getD s (at + 1) 0 < length ks
+  pub params : getD ks (getD s (at + 1) 0) 0 ≤ most-params
+  pub names : Low (namesAt s (at + 2) (getD ks (getD s (at + 1) 0) 0))
+  pub thread : t ≤ most-forks
+  pub long : row-bytes * length ks ≤ length rows
 
--- what cell j of a called row gives, where the row starts at `first`
-abbrev pub CellGives : List ℕ → ℕ → List ℕ → Label → Option ℕ → ℕ → ℕ → ℕ → Label → Type 0
-CellGives rows first xs θ h j a b l =
-    (renamed h xs (j / 8) ≡ some a) × (renamed h xs (j % 8) ≡ some b)
-    × ((m : Label) × Labelled (getD rows (first + j) 0) m × (l ≡ placed θ m))
+-- what one of the first n gives
+abbrev pub Below : (ℕ → ℕ → ℕ → Label → Type 0) → ℕ → ℕ → ℕ → Label → Type 0
+Below N n a b l = (j : ℕ) × (j < n) × N j a b l
 
--- what the cells below n of the row give
-abbrev pub RowGives : List ℕ → ℕ → List ℕ → Label → Option ℕ → ℕ → ℕ → ℕ → Label → Type 0
-RowGives rows first xs θ h n a b l = (j : ℕ) × (j < n) × CellGives rows first xs θ h j a b l
+-- what cell j of a line of a called row gives: the line starts at `first`, and p is the caller's name for it
+abbrev pub CellGives : List ℕ → ℕ → List ℕ → Label → Option ℕ → Option ℕ → ℕ → ℕ → ℕ → Label → Type 0
+CellGives rows first xs θ h p j a b l =
+    (p ≡ some a) × (renamed h xs j ≡ some b) × ((m : Label) × Labelled (getD rows (first + j) 0) m × (l ≡ placed θ m))
 
--- a row can be recorded at a call
-pub record RowReady (s : List ℕ) (at k : ℕ) (rows : List ℕ) (first t : ℕ) : Type 0 where
+-- what the first n cells of the line give
+abbrev pub LineGives : List ℕ → ℕ → List ℕ → Label → Option ℕ → Option ℕ → ℕ → ℕ → ℕ → Label → Type 0
+LineGives rows first xs θ h p n = Below (CellGives rows first xs θ h p) n
+
+-- what the first m cells of each of the first n lines give, where the row starts at `first`
+abbrev pub RowGives : List ℕ → ℕ → List ℕ → Label → Option ℕ → ℕ → ℕ → ℕ → ℕ → Label → Type 0
+RowGives rows first xs θ h m n = Below (λ i. LineGives rows (first + row-names * i) xs θ h (renamed h xs i) m) n
+
+-- n cells of a row can be recorded at a call
+pub record RowReady (s : List ℕ) (at k : ℕ) (rows : List ℕ) (first n t : ℕ) : Type 0 where
   pub there : at + k ≤ length s
   pub params : k ≤ most-params
   pub names : Low (namesAt s at k)
-  pub long : first + 64 ≤ length rows
+  pub long : first + n ≤ length rows
   pub thread : t ≤ most-forks

@@ -2,24 +2,24 @@
 ghost use mathlib.Core.Path.{_≡_};
 ghost use Prim.Native.Nat.{_+_, _*_, _≤_, _<_};
 ghost use lib.ListN.{length, getD};
+ghost use Rattle.table.specs.Constants.{most-forks, row-names, row-cells};
 ghost use Rattle.rules.specs.Number.{labelOf};
 ghost use Rattle.rules.specs.Model as model;
 ghost use Rattle.grid.specs.Grid.{Small, Square};
-ghost use Rattle.pairs.specs.Walks.{heldBy, argOf, holderOf, threadOf};
+ghost use Rattle.pairs.specs.Walks.{heldBy};
 ghost use Rattle.pairs.specs.Gains.{Gains, LockGives, CallGives, MaskGives, Placed, Low, namesAt};
 ghost use Rattle.rows.specs.Model.{RowBits};
-ghost use Rattle.pairs.specs.Gains.{LockReady, CallReady, RowReady, RowGives};
-use crate::walk::Walk;
-use crate::walk::holder;
-use crate::walk::thread;
+ghost use Rattle.pairs.specs.Gains.{LockReady, CallReady, RowReady, LineGives, RowGives};
+use crate::walk::NOTHING;
 use grid::Grid;
 use grid::put_labels;
-use grid::with_pair;
+use table::limits::ROW_BYTES;
+use table::limits::ROW_NAMES;
 use table::scope::size;
 
 // The labels of a cell of a called row, placed in the thread: own is the thread's.
 fn placed(cell: u8, thread: u8) -> u16
-    requires { ⌜ thread ≤ 8 ⌝ }
+    requires { ⌜ thread ≤ most-forks ⌝ }
     ensures { λ r. ⌜ Placed cell thread r ⌝ }
 {
     let m = cell as u16;
@@ -29,7 +29,7 @@ fn placed(cell: u8, thread: u8) -> u16
     own | unknown | several
 }
 
-// The caller's name for name i of a routine that is called with the k names at `at`: 16 for none.
+// The caller's name for name i of a routine that is called with the k names at `at`: NOTHING for none.
 fn renamed(s: &[u8], at: usize, k: usize, holder: u8, i: usize) -> u8
     requires { ⌜ (at + k ≤ length (now s)) × Low (namesAt (now s) at k) ⌝ }
     ensures { λ r. ⌜ heldBy r ≡ model.renamed (heldBy holder) (namesAt (now (s .entry)) at k) i ⌝ }
@@ -38,7 +38,7 @@ fn renamed(s: &[u8], at: usize, k: usize, holder: u8, i: usize) -> u8
         return holder;
     }
     if k < i {
-        return 16;
+        return NOTHING;
     }
     s[at + (i - 1)]
 }
@@ -49,57 +49,79 @@ fn put_cell(g: &mut Grid, a: u8, b: u8, m: u16)
     ensures gains { λ _. ⌜ Gains (now (g .entry)) (MaskGives (heldBy a) (heldBy b) m) (now (g .exit)) ⌝ }
     ensures square { λ _. ⌜ Square (now (g .exit)) ⌝ }
 {
-    if a < 16 {
-        if b < 16 {
+    if a < NOTHING {
+        if b < NOTHING {
             put_labels(g, size(a), size(b), m);
         }
     }
 }
 
-// The grid with the pair of the LOCK at the place, unless the holder is nothing.
-pub fn locked(g: Grid, s: &[u8], w: Walk) -> Grid
-    requires { ⌜ LockReady (now s) w × Small g ⌝ }
-    ensures { λ r. ⌜ Gains g (LockGives (argOf (now (s .entry)) w) (labelOf (threadOf w))
-        (heldBy (holderOf w))) r ⌝ }
+// Adds the pair of the LOCK at `at` to the grid in place, unless the holder h is nothing; t is the thread.
+pub fn locked(g: &mut Grid, s: &[u8], at: usize, h: u8, t: u8)
+    requires { ⌜ LockReady (now s) at t × Small (now g) × Square (now g) ⌝ }
+    ensures gains { λ _. ⌜ Gains (now (g .entry)) (LockGives (getD (now (s .entry)) (at + 1) 0) (labelOf t) (heldBy h))
+        (now (g .exit)) ⌝ }
+    ensures square { λ _. ⌜ Square (now (g .exit)) ⌝ }
 {
-    let i = w.at;
-    let h = holder(w);
-    if h < 16 {
-        return with_pair(g, size(h), size(s[i + 1]), size(thread(w)));
-    }
-    g
+    put_cell(g, h, s[at + 1], 1u16 << (t as u16));
 }
 
-// The grid with the pairs of a called row that starts at `first`: the names of the call stand at `at`, k of them, h is
-// the holder and t the thread.
-fn with_row(g: Grid, s: &[u8], at: usize, k: usize, rows: &[u8], first: usize, h: u8, t: u8) -> Grid
-    requires { ⌜ RowReady (now s) at k (now rows) first t × Small g ⌝ }
-    ensures { λ r. ⌜ Gains g (RowGives (now (rows .entry)) first (namesAt (now (s .entry)) at k) (labelOf t) (heldBy h)
-        (8 * k + 8)) r ⌝ }
+// Adds the pairs of a line of a called row, whose cells start at `first` and whose first end is a: the names of the call
+// stand at `at`, k of them, h is the holder and t the thread.
+fn put_line(
+    g: &mut Grid,
+    s: &[u8],
+    at: usize,
+    k: usize,
+    rows: &[u8],
+    first: usize,
+    h: u8,
+    t: u8,
+    a: u8,
+)
+    requires { ⌜ RowReady (now s) at k (now rows) first row-names t × Small (now g) × Square (now g) ⌝ }
+    ensures gains { λ _. ⌜ Gains (now (g .entry)) (LineGives (now (rows .entry)) first (namesAt (now (s .entry)) at k)
+        (labelOf t) (heldBy h) (heldBy a) (k + 1)) (now (g .exit)) ⌝ }
+    ensures square { λ _. ⌜ Square (now (g .exit)) ⌝ }
 {
-    let mut next = g;
     let mut j = 0;
-    while j < 8 * k + 8 {
+    while j <= k {
         let cell = rows[first + j];
         if cell != 0 {
-            let a = renamed(s, at, k, h, j / 8);
-            let b = renamed(s, at, k, h, j % 8);
-            put_cell(&mut next, a, b, placed(cell, t));
+            let b = renamed(s, at, k, h, j);
+            put_cell(g, a, b, placed(cell, t));
         }
         j += 1;
     }
-    next
 }
 
-// The grid with the pairs that the CALL at the place takes from the row of its routine.
-pub fn called(g: Grid, ks: &[u8], s: &[u8], rows: &[u8], w: Walk) -> Grid
-    requires { ⌜ CallReady (now ks) (now s) (now rows) w × Small g ⌝ }
-    ensures { λ r. ⌜ Gains g (CallGives (RowBits (now (rows .entry))) (argOf (now (s .entry)) w)
-        (namesAt (now (s .entry)) (w .at + 2) (getD (now (ks .entry)) (argOf (now (s .entry)) w) 0))
-        (labelOf (threadOf w)) (heldBy (holderOf w))) r ⌝ }
+// Adds the pairs of a called row that starts at `first`: a line for each name of the routine that is something here.
+fn put_row(g: &mut Grid, s: &[u8], at: usize, k: usize, rows: &[u8], first: usize, h: u8, t: u8)
+    requires { ⌜ RowReady (now s) at k (now rows) first row-cells t × Small (now g) × Square (now g) ⌝ }
+    ensures gains { λ _. ⌜ Gains (now (g .entry)) (RowGives (now (rows .entry)) first (namesAt (now (s .entry)) at k)
+        (labelOf t) (heldBy h) (k + 1) (k + 1)) (now (g .exit)) ⌝ }
+    ensures square { λ _. ⌜ Square (now (g .exit)) ⌝ }
 {
-    let i = w.at;
-    let r = size(s[i + 1]);
+    let mut i = 0;
+    while i <= k {
+        let a = renamed(s, at, k, h, i);
+        if a < NOTHING {
+            put_line(g, s, at, k, rows, first + ROW_NAMES * i, h, t, a);
+        }
+        i += 1;
+    }
+}
+
+// Adds the pairs that the CALL at `at` takes from the row of its routine; h is the holder and t the thread.
+pub fn called(g: &mut Grid, ks: &[u8], s: &[u8], rows: &[u8], at: usize, h: u8, t: u8)
+    requires { ⌜ CallReady (now ks) (now s) (now rows) at t × Small (now g) × Square (now g) ⌝ }
+    ensures gains { λ _. ⌜ Gains (now (g .entry)) (CallGives (RowBits (now (rows .entry)))
+        (getD (now (s .entry)) (at + 1) 0)
+        (namesAt (now (s .entry)) (at + 2) (getD (now (ks .entry)) (getD (now (s .entry)) (at + 1) 0) 0))
+        (labelOf t) (heldBy h)) (now (g .exit)) ⌝ }
+    ensures square { λ _. ⌜ Square (now (g .exit)) ⌝ }
+{
+    let r = size(s[at + 1]);
     let k = size(ks[r]);
-    with_row(g, s, i + 2, k, rows, 65 * r, holder(w), thread(w))
+    put_row(g, s, at + 2, k, rows, ROW_BYTES * r, h, t);
 }

@@ -3,6 +3,7 @@ ghost use mathlib.Core.Path.{_≡_};
 ghost use mathlib.Core.Logic.{_⊎_};
 ghost use Prim.Native.Nat.{_*_, _<_, _≤_};
 ghost use lib.ListN.{length};
+ghost use Rattle.table.specs.Constants.{most-routines, row-bytes};
 ghost use Rattle.grid.specs.Rows.{Has, Bits};
 ghost use Rattle.pairs.specs.Fine.{IsBody};
 ghost use Rattle.pairs.specs.Contracts.{Scans, Records};
@@ -16,9 +17,12 @@ use grid::Grid;
 use grid::empty;
 use table::limits::CALL;
 use table::limits::LOCK;
-use walk::next;
+use walk::LEVELS;
+use walk::Place;
+use walk::level;
 use walk::over;
-use walk::start;
+use walk::past;
+use walk::step;
 
 // What scanning a body gives: the offset after it, and the routines that its calls name, as bits.
 pub struct Scanned {
@@ -28,7 +32,7 @@ pub struct Scanned {
 
 // The routines `calls`, and q.
 fn with_call(calls: u64, q: u8) -> u64
-    requires { ⌜ q < 64 ⌝ }
+    requires { ⌜ q < most-routines ⌝ }
     ensures { λ r. ⌜ Bits r (λ j. Has calls j ⊎ (j ≡ q)) ⌝ }
 {
     calls | (1 << (q as u64))
@@ -36,15 +40,15 @@ fn with_call(calls: u64, q: u8) -> u64
 
 // Scans the body at `at`.
 pub fn scan(ks: &[u8], s: &[u8], at: usize) -> Scanned
-    requires { ⌜ IsBody (now ks) (now s) at × (length (now ks) ≤ 64) ⌝ }
+    requires { ⌜ IsBody (now ks) (now s) at × (length (now ks) ≤ most-routines) ⌝ }
     ensures { λ r. ⌜ Scans (now (ks .entry)) (now (s .entry)) at (r .next) (r .calls) ⌝ }
 {
-    let mut w = start(at);
+    let mut i = at;
+    let mut top = 0;
     let mut calls = 0u64;
     loop {
-        let i = w.at;
         let b = s[i];
-        if over(b, w.top) {
+        if over(b, top) {
             return Scanned {
                 next: i + 1,
                 calls: calls,
@@ -53,30 +57,38 @@ pub fn scan(ks: &[u8], s: &[u8], at: usize) -> Scanned
         if b == CALL {
             calls = with_call(calls, s[i + 1]);
         }
-        w = next(ks, s, w);
+        i = past(ks, s, i);
+        top = level(b, top);
     }
 }
 
 // The pairs that the body at `at` records, where `rows` has the rows of the routines.
 pub fn recorded(ks: &[u8], s: &[u8], at: usize, rows: &[u8]) -> Grid
-    requires { ⌜ IsBody (now ks) (now s) at × (65 * length (now ks) ≤ length (now rows)) ⌝ }
+    requires { ⌜ IsBody (now ks) (now s) at × (row-bytes * length (now ks) ≤ length (now rows)) ⌝ }
     ensures { λ r. ⌜ Records (now (ks .entry)) (now (s .entry)) at (now (rows .entry)) r ⌝ }
 {
-    let mut w = start(at);
+    let mut holders = [0u8; LEVELS];
+    let mut threads = [0u8; LEVELS];
+    let mut p = Place {
+        at: at,
+        forks: 0,
+        top: 0,
+    };
     let mut g = empty();
     loop {
-        let i = w.at;
+        let i = p.at;
+        let n = p.top;
         let b = s[i];
-        if over(b, w.top) {
+        if over(b, n) {
             return g;
         }
+        let h = holders[n];
+        let t = threads[n];
         if b == LOCK {
-            let t = locked(g, s, w);
-            g = t;
+            locked(&mut g, s, i, h, t);
         } else if b == CALL {
-            let t = called(g, ks, s, rows, w);
-            g = t;
+            called(&mut g, ks, s, rows, i, h, t);
         }
-        w = next(ks, s, w);
+        p = step(ks, s, p, &mut holders, &mut threads);
     }
 }

@@ -1,57 +1,29 @@
 // The walk over a body's bytes: a place, and what holds there at each open level.
 ghost use mathlib.Core.Path.{_≡_};
-ghost use Rattle.pairs.specs.Walks.{startWalk, movedWalk, closedWalk, openedWalk, nextWalk, holderOf, threadOf};
-ghost use Rattle.pairs.specs.Walks.{IsOver, Entries, SomeOpen, Room, Ready};
+ghost use Prim.Native.Nat.{_≤_};
+ghost use Rattle.table.specs.Constants.{most-open};
+ghost use Rattle.pairs.specs.Walks.{walkOf, pastItem, topBy, enteredWalk, nextWalk};
+ghost use Rattle.pairs.specs.Walks.{IsOver, Passable, LevelReady, Ready};
 use table::limits::CALL;
 use table::limits::CHOICE;
 use table::limits::END;
 use table::limits::FORK;
 use table::limits::LOCK;
+use table::limits::MOST_NAMES;
+use table::limits::MOST_OPEN;
 use table::scope::size;
 
-// A place of a body: the offset, how many FORK stand before it, the innermost open level (the body is level
-// 0), and for each open level the holder (16 for nothing) and the thread (a label number).
-pub struct Walk {
+// How many levels there are: the body, and the blocks that may be open at one time.
+pub const LEVELS: usize = MOST_OPEN as usize + 1;
+
+// What stands for no name where a holder is due.
+pub const NOTHING: u8 = MOST_NAMES as u8;
+
+// A place of a body: the offset, how many FORK stand before it, and the innermost open level (the body is level 0).
+pub struct Place {
     pub at: usize,
     pub forks: u8,
     pub top: usize,
-    pub holders: [u8; 17],
-    pub threads: [u8; 17],
-}
-
-// The start of a body: its holder is name 0, and its thread the running one.
-pub fn start(at: usize) -> Walk
-    ensures { λ r. ⌜ r ≡ startWalk at ⌝ }
-{
-    let holders = [0u8; 17];
-    let threads = [0u8; 17];
-    Walk {
-        at: at,
-        forks: 0,
-        top: 0,
-        holders: holders,
-        threads: threads,
-    }
-}
-
-// The holder at the place.
-pub fn holder(w: Walk) -> u8
-    requires { ⌜ Entries w ⌝ }
-    ensures { λ r. ⌜ r ≡ holderOf w ⌝ }
-{
-    let n = w.top;
-    let hs = w.holders;
-    hs[n]
-}
-
-// The thread of the place.
-pub fn thread(w: Walk) -> u8
-    requires { ⌜ Entries w ⌝ }
-    ensures { λ r. ⌜ r ≡ threadOf w ⌝ }
-{
-    let n = w.top;
-    let ts = w.threads;
-    ts[n]
 }
 
 // Whether the item with code b is the END of the body, where `top` is the innermost open level.
@@ -61,75 +33,84 @@ pub fn over(b: u8, top: usize) -> bool
     if b == END { top == 0 } else { false }
 }
 
-// The walk at another offset, with the same levels open.
-fn moved(w: Walk, at: usize) -> Walk
-    ensures { λ r. ⌜ r ≡ movedWalk w at ⌝ }
+// The offset past the item at `at`.
+pub fn past(ks: &[u8], s: &[u8], at: usize) -> usize
+    requires { ⌜ Passable (now ks) (now s) at ⌝ }
+    ensures { λ r. ⌜ r ≡ pastItem (now (ks .entry)) (now (s .entry)) at ⌝ }
 {
-    let hs = w.holders;
-    let ts = w.threads;
-    Walk {
-        at: at,
-        forks: w.forks,
-        top: w.top,
-        holders: hs,
-        threads: ts,
+    match s[at] {
+        LOCK => at + 2,
+        CALL => {
+            let r = size(s[at + 1]);
+            at + 2 + size(ks[r])
+        }
+        _ => at + 1,
     }
 }
 
-// The walk at another offset, with one level less.
-fn closed(w: Walk, at: usize) -> Walk
-    requires { ⌜ SomeOpen w ⌝ }
-    ensures { λ r. ⌜ r ≡ closedWalk w at ⌝ }
+// The innermost open level past an item with code b.
+pub fn level(b: u8, top: usize) -> usize
+    requires { ⌜ LevelReady b top ⌝ }
+    ensures { λ r. ⌜ r ≡ topBy top b ⌝ }
 {
-    let top = w.top - 1;
-    let holders = w.holders;
-    let threads = w.threads;
-    Walk {
-        at: at,
-        forks: w.forks,
-        top: top,
-        holders: holders,
-        threads: threads,
+    match b {
+        END => top - 1,
+        LOCK | FORK | CHOICE => top + 1,
+        _ => top,
     }
 }
 
-// The walk at another offset, with one level more, and forks FORK met.
-fn opened(w: Walk, at: usize, forks: u8, holder: u8, thread: u8) -> Walk
-    requires { ⌜ Room w ⌝ }
-    ensures { λ r. ⌜ r ≡ openedWalk w at forks holder thread ⌝ }
+// The place after `forks` FORK, with the holder and the thread of its innermost level written to the two arrays.
+fn entered(
+    p: Place,
+    forks: u8,
+    holder: u8,
+    thread: u8,
+    holders: &mut [u8; LEVELS],
+    threads: &mut [u8; LEVELS],
+) -> Place
+    requires { ⌜ p .top ≤ most-open ⌝ }
+    ensures { λ r. ⌜ walkOf r (now (holders .exit)) (now (threads .exit))
+        ≡ enteredWalk (walkOf p (now (holders .entry)) (now (threads .entry))) forks holder thread ⌝ }
 {
-    let n = w.top + 1;
-    let mut hs = w.holders;
-    let mut ts = w.threads;
-    hs[n] = holder;
-    ts[n] = thread;
-    Walk {
-        at: at,
+    let n = p.top;
+    holders[n] = holder;
+    threads[n] = thread;
+    Place {
+        at: p.at,
         forks: forks,
         top: n,
-        holders: hs,
-        threads: ts,
     }
 }
 
-// The walk past the item at its place.
-pub fn next(ks: &[u8], s: &[u8], w: Walk) -> Walk
-    requires { ⌜ Ready (now ks) (now s) w ⌝ }
-    ensures { λ r. ⌜ r ≡ nextWalk (now (ks .entry)) (now (s .entry)) w ⌝ }
+// The place past the item at p. The arrays have the holder (16 for nothing) and the thread (a label number) of each open
+// level: where the item opens one, its entries are written.
+pub fn step(
+    ks: &[u8],
+    s: &[u8],
+    p: Place,
+    holders: &mut [u8; LEVELS],
+    threads: &mut [u8; LEVELS],
+) -> Place
+    requires { ⌜ Ready (now ks) (now s) (walkOf p (now holders) (now threads)) ⌝ }
+    ensures { λ r. ⌜ walkOf r (now (holders .exit)) (now (threads .exit))
+        ≡ nextWalk (now (ks .entry)) (now (s .entry)) (walkOf p (now (holders .entry)) (now (threads .entry))) ⌝ }
 {
-    let i = w.at;
-    let forks = w.forks;
-    let h = holder(w);
-    let t = thread(w);
-    match s[i] {
-        END => closed(w, i + 1),
-        LOCK => opened(w, i + 2, forks, s[i + 1], t),
-        FORK => opened(w, i + 1, forks + 1, 16, forks + 1),
-        CHOICE => opened(w, i + 1, forks, h, t),
-        CALL => {
-            let r = size(s[i + 1]);
-            moved(w, i + 2 + size(ks[r]))
-        }
-        _ => moved(w, i + 1),
+    let i = p.at;
+    let n = p.top;
+    let b = s[i];
+    let forks = p.forks;
+    let h = holders[n];
+    let t = threads[n];
+    let q = Place {
+        at: past(ks, s, i),
+        forks: forks,
+        top: level(b, n),
+    };
+    match b {
+        LOCK => entered(q, forks, s[i + 1], t, holders, threads),
+        FORK => entered(q, forks + 1, NOTHING, forks + 1, holders, threads),
+        CHOICE => entered(q, forks, h, t, holders, threads),
+        _ => q,
     }
 }

@@ -5,6 +5,7 @@ use mathlib.Core.Bool.{Bool}
 use mathlib.Core.List.{List, []}
 use Prim.Native.Nat.{ℕ, _+_, _*_, _<_}
 use lib.ListN.{getD, length}
+use Rattle.table.specs.Constants.{row-names}
 use Rattle.rules.specs.Label.{Label, own, forked, unknown, several}
 use Rattle.grid.specs.Rows.{Has, Rel, Bits}
 use Rattle.grid.specs.Grid.{In}
@@ -39,7 +40,7 @@ Below F n p j = (b : ℕ) × (b < n) × F b p j
 
 -- the pairs from a to the names below n, with the masks of row, in the row that begins at start
 abbrev pub InRow : ℕ → ℕ → List ℕ → ℕ → Rel
-InRow start a row n = Below (λ b. AtCell (start + 8 * a + b) a b (getD row b 0)) n
+InRow start a row n = Below (λ b. AtCell (start + row-names * a + b) a b (getD row b 0)) n
 
 -- the pairs from the names below m to those below n in the grid g, in the row that begins at start
 abbrev pub InGrid : ℕ → List (List ℕ) → ℕ → ℕ → Rel

@@ -5,6 +5,7 @@ use mathlib.Core.Bool.{Bool, true, false}
 use mathlib.Core.List.{List, [], _∷_}
 use Prim.Native.Nat.{ℕ, _+_, _*_, _<_, _≤_}
 use lib.ListN.{getD, length}
+use Rattle.table.specs.Constants.{row-names, row-cells, row-bytes}
 use Rattle.rules.specs.Label.{Label, own, forked, unknown, several, cut}
 use Rattle.rules.specs.laws.Satisfies.{Pairs}
 use Rattle.grid.specs.Rows.{Has}
@@ -19,16 +20,16 @@ Labelled m several = Has m 2
 
 -- the rows in a buffer: cell 8 * a + b of the row of routine r has the labels of (a, b)
 abbrev pub RowBits : List ℕ → Pairs
-RowBits rows r a b l = (a < 8) × (b < 8) × Labelled (getD rows (65 * r + 8 * a + b) 0) l
+RowBits rows r a b l = (a < row-names) × (b < row-names) × Labelled (getD rows (row-bytes * r + row-names * a + b) 0) l
 
 -- the last byte of the row of routine r says that there is a ring
 abbrev pub RingByte : List ℕ → ℕ → Type 0
-RingByte rows r = getD rows (65 * r + 64) 0 ≡ 1
+RingByte rows r = getD rows (row-bytes * r + row-cells) 0 ≡ 1
 
 -- the row of routine r: each cell has labels alone, and the last byte is 0 or 1
 pub record ShapedRow (rows : List ℕ) (r : ℕ) : Type 0 where
-  pub cells : (i : ℕ) → i < 64 → getD rows (65 * r + i) 0 < 8
-  pub last : getD rows (65 * r + 64) 0 ≤ 1
+  pub cells : (i : ℕ) → i < row-cells → getD rows (row-bytes * r + i) 0 < 8
+  pub last : getD rows (row-bytes * r + row-cells) 0 ≤ 1
 
 -- the rows of the routines below n
 abbrev pub Shaped : ℕ → List ℕ → Type 0
@@ -55,7 +56,7 @@ Moves true before after = total before < total after
 -- after is before with the row of the grid g, of a routine of k parameters, added to row r, and changed tells of it
 pub record RowAdded (before after : List ℕ) (r k : ℕ) (g : List (List ℕ)) (changed : Bool) : Type 0 where
   pub long : length after ≡ length before
-  pub outside : (i : ℕ) → (i < 65 * r) ⊎ (65 * r + 65 ≤ i) → getD after i 0 ≡ getD before i 0
+  pub outside : (i : ℕ) → (i < row-bytes * r) ⊎ (row-bytes * r + row-bytes ≤ i) → getD after i 0 ≡ getD before i 0
   pub only : (q a b : ℕ) (l : Label)
       → RowBits after q a b l → RowBits before q a b l ⊎ ((q ≡ r) × GridRow k g a b l)
   pub old : (q a b : ℕ) (l : Label) → RowBits before q a b l → RowBits after q a b l

@@ -1,10 +1,15 @@
 // Rows of the model buffer: adding the row of a closed grid, and clearing rows.
 ghost use Prim.Native.Nat.{_+_, _*_, _<_, _≤_};
 ghost use lib.ListN.{length};
+ghost use Rattle.table.specs.Constants.{most-params, row-cells, row-bytes};
 ghost use Rattle.grid.specs.Rows.{Bits};
 ghost use Rattle.rows.specs.Model.{ShapedRow, RowAdded, Cleared};
 ghost use Rattle.rows.specs.Added.{CellBit, AtByte, AtCell, AtRing, InRow, InGrid, Added};
 use grid::Grid;
+use table::limits::MOST_NAMES;
+use table::limits::ROW_BYTES;
+use table::limits::ROW_CELLS;
+use table::limits::ROW_NAMES;
 
 // The byte of a cell for a mask of label numbers: 1 own, 2 unknown or a fork, 4 several.
 fn cell_byte(m: u16) -> u8
@@ -48,22 +53,22 @@ fn with_cell(model: &mut [u8], i: usize, a: usize, b: usize, m: u16) -> bool
 }
 
 // Adds the pairs from a to the names 0 to k, with the masks of row, to the cells of the row that begins at start.
-fn with_cells(model: &mut [u8], start: usize, a: usize, row: [u16; 16], k: usize) -> bool
-    requires { ⌜ (a ≤ 7) × (k ≤ 7) × (start + 64 ≤ length (now model)) ⌝ }
+fn with_cells(model: &mut [u8], start: usize, a: usize, row: [u16; MOST_NAMES], k: usize) -> bool
+    requires { ⌜ (a ≤ most-params) × (k ≤ most-params) × (start + row-cells ≤ length (now model)) ⌝ }
     ensures { λ r. ⌜ Added (InRow start a row (k + 1)) (now (model .entry)) (now (model .exit)) r ⌝ }
 {
     let mut changed = false;
     for b in 0..k + 1 {
-        let more = with_cell(model, start + 8 * a + b, a, b, row[b]);
+        let more = with_cell(model, start + ROW_NAMES * a + b, a, b, row[b]);
         changed = changed | more;
     }
     changed
 }
 
 // Adds the pairs of the names 0 to k to the cells of the row that begins at start.
-fn with_pairs(model: &mut [u8], start: usize, g: Grid, k: usize) -> bool
-    requires { ⌜ (k ≤ 7) × (start + 64 ≤ length (now model)) ⌝ }
-    ensures { λ r. ⌜ Added (InGrid start g (k + 1) (k + 1)) (now (model .entry)) (now (model .exit)) r ⌝ }
+fn with_pairs(model: &mut [u8], start: usize, g: &Grid, k: usize) -> bool
+    requires { ⌜ (k ≤ most-params) × (start + row-cells ≤ length (now model)) ⌝ }
+    ensures { λ r. ⌜ Added (InGrid start (now (g .entry)) (k + 1) (k + 1)) (now (model .entry)) (now (model .exit)) r ⌝ }
 {
     let mut changed = false;
     for a in 0..k + 1 {
@@ -80,7 +85,7 @@ fn with_ring(model: &mut [u8], i: usize, g: Grid) -> bool
     ensures { λ r. ⌜ Added (AtRing i g) (now (model .entry)) (now (model .exit)) r ⌝ }
 {
     let x = grid::ring_name(g);
-    if x == 16 {
+    if x == MOST_NAMES {
         return false;
     }
     with_byte(model, i, 1)
@@ -88,12 +93,12 @@ fn with_ring(model: &mut [u8], i: usize, g: Grid) -> bool
 
 // Adds the row that the closed grid g gives a routine of k parameters to row r, and says whether that changed it.
 pub fn with_row(model: &mut [u8], r: usize, k: usize, g: Grid) -> bool
-    requires { ⌜ (k ≤ 7) × (65 * r + 65 ≤ length (now model)) × ShapedRow (now model) r ⌝ }
+    requires { ⌜ (k ≤ most-params) × (row-bytes * r + row-bytes ≤ length (now model)) × ShapedRow (now model) r ⌝ }
     ensures { λ c. ⌜ RowAdded (now (model .entry)) (now (model .exit)) r k g c ⌝ }
 {
-    let start = 65 * r;
-    let pairs = with_pairs(model, start, g, k);
-    let ring = with_ring(model, start + 64, g);
+    let start = ROW_BYTES * r;
+    let pairs = with_pairs(model, start, &g, k);
+    let ring = with_ring(model, start + ROW_CELLS, g);
     pairs | ring
 }
 

@@ -16,7 +16,8 @@ use Rattle.table.specs.Check.{bodyThen, bodies, small?, sections, checkT
 use Rattle.table.specs.laws.ScopeMask.{bits, bits-names, grows, double, shift-one}
 use Rattle.table.specs.Answer.{checkedOf}
 use Rattle.table.specs.laws.Sound.{small-each}
-use Rattle.table.specs.laws.Readers.{placeOf, countsPast, readOf, blockAnswer, Ready, HasCounts, checkedFrom}
+use Rattle.table.specs.laws.Readers.{placeOf, countsPast, readOf, blockAnswer, fresh, bodyAnswer}
+use Rattle.table.specs.laws.Readers.{Ready, HasCounts, checkedFrom}
 use Rattle.table.specs.declared.bodies.Counts.{Counts}
 use Rattle.table.specs.declared.bodies.BlockRead.{BlockRead}
 use Rattle.table.specs.declared.bodies.BlockRead.the-variants.{Read, Bad}
@@ -36,10 +37,6 @@ small-good ks i l h = rw (from-here ks i l, le-leb (getD ks i 0) most-params h)
 
 pub small-bad : (ks : List ℕ) (i : ℕ) → i < length ks → most-params < getD ks i 0 → small? (drop i ks) ≡ false
 small-bad ks i l h = rw (from-here ks i l, lt-leb (getD ks i 0) most-params h)
-
--- the counts at the head of a body
-abbrev pub fresh : ℕ → Counts
-fresh i = record { news = 0; forks = 0; items = i }
 
 -- the mask of the parameters, as code makes it
 abbrev pub mask : ℕ → ℕ
@@ -71,6 +68,15 @@ head-place : (k i : ℕ) → k ≤ most-params → placeOf k (mask k) (fresh i) 
 head-place k i l = ap {B = Place} (λ (v : List ℕ). record { own = k; scope = v; made = 0; started = 0 })
     (ap bits (mask-is k l) ∙ bits-names k l)
 
+-- the block that the code reads at the head of a body is the body
+head-block : (ks s : List ℕ) (at k i : ℕ) → k ≤ most-params
+    → block ks most-open false (placeOf k (mask k) (fresh i)) (drop at s) ≡ block ks most-open false (atHead k) (drop at s)
+head-block ks s at k i l = ap (λ (w : Place). block ks most-open false w (drop at s)) (head-place k i l)
+
+pub body-is : (ks s : List ℕ) (at k i : ℕ) → k ≤ most-params
+    → blockAnswer ks s at most-open false k (mask k) (fresh i) ≡ bodyAnswer ks s at k i
+body-is ks s at k i l = ap (readOf s (fresh i)) (head-block ks s at k i l)
+
 same-accepted : (a a′ b b′ : ℕ) → a ≡ a′ → b ≡ b′ → Accepted a b ≡ Accepted a′ b′
 same-accepted a a′ b b′ p q = rw (p, q)
 
@@ -91,13 +97,13 @@ module _ (ks s : List ℕ) (r at i : ℕ) where
   -- the next body, of a routine with k parameters
   module _ (l : r < length ks) (k : ℕ) (ek : k ≡ getD ks r 0) (small : k ≤ most-params) (h : i ≤ at) where
     abbrev next : Block
-    next = block ks most-open false (placeOf k (mask k) (fresh i)) (drop at s)
+    next = block ks most-open false (atHead k) (drop at s)
 
     abbrev others : List ℕ → Outcome
     others t = bodies ks (drop (r + 1) ks) t
 
     here : left ≡ checkedFrom r i (bodyThen k next others)
-    here = rw (from-here ks r l, ← ek, head-place k i small)
+    here = rw (from-here ks r l, ← ek)
 
     pub body-bad : (e : ℕ) → readOf s (fresh i) next ≡ Bad e → left ≡ Refused e
     body-bad e p = here ∙ go next p
@@ -110,8 +116,10 @@ module _ (ks s : List ℕ) (r at i : ℕ) where
         → (n .items ≤ x) × (left ≡ checkedFrom (r + 1) (n .items) (others (drop x s)))
     body-read x n p = (rr .0 .few-items, here ∙ go next refl)
       where
-        rr : Ready x k (mask k) n × ((c : Code) (t : List ℕ) → next ≡ ok c t → t ≡ drop x s)
-        rr = read-ready ks s at most-open false k (mask k) (fresh i) (head-ready at k i small h) x n p
+        rr : Ready x k (mask k) n × ((c : Code) (t : List ℕ)
+            → block ks most-open false (placeOf k (mask k) (fresh i)) (drop at s) ≡ ok c t → t ≡ drop x s)
+        rr = read-ready ks s at most-open false k (mask k) (fresh i) (head-ready at k i small h) x n
+            (body-is ks s at k i small ∙ p)
 
         go : (b : Block) → next ≡ b
             → checkedFrom r i (bodyThen k b others) ≡ checkedFrom (r + 1) (n .items) (others (drop x s))
@@ -120,7 +128,8 @@ module _ (ks s : List ℕ) (r at i : ℕ) where
             sym (ap (readOf s (fresh i)) q) ∙ p in
             let o′ : countsPast (fresh i) c ≡ n = cc in
             with-from r i (record { count = k; code = c }) (others t)
-            ∙ ap (λ (v : List ℕ). checkedFrom (r + 1) (i + items c) (others v)) (rr .1 c t q)
+            ∙ ap (λ (v : List ℕ). checkedFrom (r + 1) (i + items c) (others v))
+            (rr .1 c t (head-block ks s at k i small ∙ q))
             ∙ ap (λ (v : Counts). checkedFrom (r + 1) (v .items) (others (drop x s))) o′
         go (bad y) q =
             let o : Bad y ≡ Read x n = sym (ap (readOf s (fresh i)) q) ∙ p in

@@ -2,4 +2,5 @@ mod NameLaws
 mod ReaderLaws
 mod OpeningLaws
 mod HeaderLaws
+mod WalkLaws
 mod Examples

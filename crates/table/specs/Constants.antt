@@ -1,7 +1,7 @@
--- The limits of a table and the codes of its items.
+-- The limits of a table, the sizes that follow from them, and the codes of its items.
 use mathlib.Core.List.{[], _∷_}
 use mathlib.Core.Option.{Option}
-use Prim.Native.Nat.{ℕ}
+use Prim.Native.Nat.{ℕ, _+_, _*_}
 use lib.ListN.{getElem?}
 
 -- how many routines a table has at most
@@ -27,6 +27,22 @@ most-news = 8
 -- how many FORK stand in a routine at most
 abbrev pub most-forks : ℕ
 most-forks = 8
+
+-- how many names a routine has at most: name 0, its parameters and its locals
+abbrev pub most-names : ℕ
+most-names = 1 + most-params + most-news
+
+-- how many names a row of the model has cells for: name 0 and the parameters
+abbrev pub row-names : ℕ
+row-names = 1 + most-params
+
+-- how many cells a row has
+abbrev pub row-cells : ℕ
+row-cells = row-names * row-names
+
+-- how many bytes a row has: its cells and the ring's byte
+abbrev pub row-bytes : ℕ
+row-bytes = row-cells + 1
 
 -- the kinds of item
 pub data Op : Type 0 where

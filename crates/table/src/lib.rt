@@ -7,15 +7,14 @@ ghost use Rattle.table.specs.laws.Readers.{HasCounts};
 
 mod bodies;
 pub mod limits;
+mod reader;
 pub mod scope;
 
 use bodies::BlockRead;
-use bodies::Counts;
-use bodies::read_block;
 use limits::MOST_BYTES;
-use limits::MOST_OPEN;
 use limits::MOST_PARAMS;
 use limits::MOST_ROUTINES;
+use reader::next_body;
 use scope::size;
 use scope::wide;
 
@@ -49,12 +48,7 @@ fn read_bodies(ks: &[u8], s: &[u8]) -> Checked
     let mut items = 0u64;
     while r < ks.len() {
         let own = wide(ks[r]);
-        let n = Counts {
-            news: 0,
-            forks: 0,
-            items: items,
-        };
-        match read_block(ks, s, at, MOST_OPEN, false, own, (1 << (own + 1)) - 2, n) {
+        match next_body(s, at, ks, own, items) {
             BlockRead::Read(next, k) => {
                 at = next;
                 items = k.items;

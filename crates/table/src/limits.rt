@@ -1,4 +1,4 @@
-// The limits of a table and the codes of its items.
+// The limits of a table, the sizes that follow from them, and the codes of its items.
 
 // How many routines a table has at most.
 pub const MOST_ROUTINES: usize = 64;
@@ -17,6 +17,18 @@ pub const MOST_NEWS: u64 = 8;
 
 // How many FORK stand in a routine at most.
 pub const MOST_FORKS: u64 = 8;
+
+// How many names a routine has at most: name 0, its parameters and its locals.
+pub const MOST_NAMES: usize = 1 + MOST_PARAMS as usize + MOST_NEWS as usize;
+
+// How many names a row of the model has cells for: name 0 and the parameters.
+pub const ROW_NAMES: usize = 1 + MOST_PARAMS as usize;
+
+// How many cells a row has.
+pub const ROW_CELLS: usize = ROW_NAMES * ROW_NAMES;
+
+// How many bytes a row has: its cells and the ring's byte.
+pub const ROW_BYTES: usize = ROW_CELLS + 1;
 
 // The codes.
 pub const END: u8 = 0x00;

@@ -6,7 +6,8 @@ use lib.ListN.{length, replicate, set}
 use Rattle.table.specs.Program.{Program}
 use Rattle.table.specs.Check.{accepted, checkTable}
 use Rattle.table.specs.WellFormed.{In}
-use Rattle.analysis.specs.Answer.{row-bytes, row-names, Says, Cell, Models}
+use Rattle.table.specs.Constants.{row-bytes, row-names}
+use Rattle.analysis.specs.Answer.{Says, Cell, Models}
 use Rattle.analysis.specs.declared.Verdict.{Verdict}
 use Rattle.analysis.specs.declared.Verdict.the-variants.{Clear, Ring}
 

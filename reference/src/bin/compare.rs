@@ -4,13 +4,13 @@
 //! boundary tables, some plain runs of bytes and COUNT random tables of SEED. It
 //! prints one summary line, or the first difference and exits with 1.
 //!
-//! Needs the feature `archive`; with the feature `analyse` the archive's analysis
-//! is compared too.
+//! Needs the feature `archive`.
 
 use std::collections::BTreeMap;
 use std::env;
 use std::process::ExitCode;
 
+use reference::archive;
 use reference::cases::{rules, worked};
 use reference::generate::{boundaries, random, Rng, KINDS};
 use reference::limits::CHECK_ROUTINE;
@@ -19,39 +19,12 @@ use reference::{check_number, hex};
 const DEFAULT_SEED: u64 = 1;
 const DEFAULT_COUNT: u64 = 100_000;
 
-/// The functions of the archive.
-mod archive {
-    extern "C" {
-        fn vangpear_check(table: *const u8, len: usize) -> u32;
-        #[cfg(feature = "analyse")]
-        fn vangpear_analyse(
-            table: *const u8,
-            table_len: usize,
-            model: *mut u8,
-            model_len: usize,
-        ) -> u32;
-    }
-
-    pub fn check(table: &[u8]) -> u32 {
-        // SAFETY: pointer and length are those of one slice, lent for the call.
-        unsafe { vangpear_check(table.as_ptr(), table.len()) }
-    }
-
-    #[cfg(feature = "analyse")]
-    pub fn analyse(table: &[u8], model: &mut [u8]) -> u32 {
-        // SAFETY: pointers and lengths are those of two slices that do not
-        // overlap, lent for the call.
-        unsafe { vangpear_analyse(table.as_ptr(), table.len(), model.as_mut_ptr(), model.len()) }
-    }
-}
-
 /// What has been compared so far.
 #[derive(Default)]
 struct Tally {
     accepted: u64,
     /// How often each refusal was given.
     refused: BTreeMap<u32, u64>,
-    #[cfg(feature = "analyse")]
     analysis: analysis::Tally,
 }
 
@@ -71,16 +44,14 @@ fn compare(tally: &mut Tally, table: &[u8]) -> Result<(), String> {
     } else {
         tally.accepted += 1;
     }
-    #[cfg(feature = "analyse")]
     analysis::compare(&mut tally.analysis, table, expected)?;
     Ok(())
 }
 
 /// The analysis, over buffers of every length that matters.
-#[cfg(feature = "analyse")]
 mod analysis {
-    use super::archive;
     use reference::analyse_number;
+    use reference::archive;
     use reference::limits::{CHECK_ROUTINE, MAX_ROUTINES, RING_BASE, ROW_BYTES};
 
     /// Bytes on both sides of a buffer, which must stay as they were.
@@ -228,7 +199,6 @@ fn run(seed: u64, count: u64) -> Result<String, String> {
         tally.accepted,
         refused.join(", "),
     );
-    #[cfg(feature = "analyse")]
     {
         let analysis = &tally.analysis;
         summary += &format!(

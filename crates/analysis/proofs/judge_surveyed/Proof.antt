@@ -1,30 +1,46 @@
 -- `judge_surveyed` meets its contract: the rows are settled, and the verdict is read off them.
-use Rattle.analysis.specs.declared.Verdict.the-variants.{Clear}
-use Rattle.analysis.proofs.VerdictLaws.{finished-from, judged-known}
+use Rattle.analysis.proofs.DueLaws.{no-callers}
+use Rattle.analysis.proofs.VerdictLaws.{few-calls, can-settle, finished-from, judged-known}
 use borrow.Author.Needs.{needs}
 use Rattle.analysis.proofs.judge_surveyed.Statement.{statement}
 use Rattle.analysis.proofs.judge_surveyed.Tie as tie
 
+add-callers-requires : tie.Need-add-callers-requires
+add-callers-requires c κs =
+    let a = c .before .before .before .before .before .before .args in
+    let p = c .before .before .before .before .before .before .pre in
+    (few-calls (a .ks .now) (a .s .now) (a .starts .now) (a .calls .now) (a .model .now) p, no-callers)
+
 settle-requires : tie.Need-settle-requires
-settle-requires c κs = search needs
+settle-requires c κs =
+    let a = c .before .before .before .before .before .before .before .before .before .args in
+    let p = c .before .before .before .before .before .before .before .before .before .pre in
+    let m = c .before .before .add-callers in
+    can-settle (a .ks .now) (a .s .now) (a .starts .now) (a .calls .now) (m .last .1 .0) (m .ensures) (a .model .now) p
 
 verdict-of-requires : tie.Need-verdict-of-requires
 verdict-of-requires c κs =
-    let a = c .before .before .before .before .before .before .before .before .before .before .args in
-    finished-from (a .ks .now) (a .s .now) (a .starts .now) (a .calls .now) (a .model .now)
-    (c .before .before .before .settle .last .1 .1 .1 .1 .0) Clear (c .before .before .before .before .before
-    .before .before .before .before .before .pre) (c .before .before .before .settle .ensures)
-    (c .before .before .before .settle .kept .1 .1 .1 .1 .0)
+    let a = c .before .before .before .before .before .before .before .before .before .before .before .before .before
+    .args in
+    let p = c .before .before .before .before .before .before .before .before .before .before .before .before .before
+    .pre in
+    let m = c .before .before .before .before .before .before .add-callers in
+    let t = c .before .before .before .settle in
+    finished-from (a .ks .now) (a .s .now) (a .starts .now) (a .calls .now) (m .last .1 .0) (m .ensures)
+    (a .model .now) (t .last .1 .1 .1 .1 .0) (t .result) (t .ensures) p (t .kept .1 .1 .1 .1 .0)
 
 same-length : tie.Need-same-length
 same-length c = search needs
 
 returns : tie.Need-returns
 returns c =
-    let a = c .before .before .before .before .before .before .before .before .before .before .before .args in
-    judged-known (a .ks .now) (a .s .now) (a .starts .now) (a .calls .now) (a .model .now)
-    (c .before .before .before .before .settle .last .1 .1 .1 .1 .0) (c .verdict-of .result)
-    (c .before .before .before .before .settle .ensures) (c .verdict-of .ensures)
+    let a = c .before .before .before .before .before .before .before .before .before .before .before .before .before
+    .before .args in
+    let m = c .before .before .before .before .before .before .before .add-callers in
+    let t = c .before .before .before .before .settle in
+    judged-known (a .ks .now) (a .s .now) (a .starts .now) (a .calls .now) (m .last .1 .0) (m .ensures)
+    (a .model .now) (t .last .1 .1 .1 .1 .0) (t .result) (t .ensures) (c .verdict-of .result) (c .verdict-of .ensures)
 
 pub judge-surveyed-spec : {M : Type 1} → statement M
-judge-surveyed-spec = tie.close (tie.spec settle-requires verdict-of-requires same-length returns)
+judge-surveyed-spec =
+    tie.close (tie.spec add-callers-requires settle-requires verdict-of-requires same-length returns)

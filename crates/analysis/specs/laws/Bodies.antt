@@ -10,8 +10,10 @@ use Rattle.table.specs.Encoding.{encode, encodeBodies, counts, WithinLimits}
 use Rattle.rules.specs.Verdict.{Calls}
 use Rattle.grid.specs.Rows.{Has}
 use Rattle.rows.specs.Model.{ShapedRow}
-use Rattle.analysis.specs.Answer.{row-bytes, Says, Short, JudgedAs}
+use Rattle.table.specs.Constants.{row-bytes}
+use Rattle.analysis.specs.Answer.{Says, Short, JudgedAs}
 use Rattle.analysis.specs.declared.Verdict.{Verdict}
+use Rattle.analysis.specs.laws.Due.{Below}
 use Rattle.analysis.specs.laws.Settle.{GridOf, Improved, Partly}
 
 -- the offset at which the body of routine r starts
@@ -54,9 +56,9 @@ pub record RowReady (ks s : List ℕ) (at r : ℕ) (model : List ℕ) : Type 0 w
   pub long : row-bytes * length program ≤ length model
   pub shaped : ShapedRow model r
 
--- the row of routine r was worked out again
-abbrev pub Improves : List ℕ → List ℕ → ℕ → ℕ → List ℕ → List ℕ → Bool → Type 0
-Improves ks s at r before after changed = (P : Program) → BodyOf P ks s at r → Improved P before after r changed
+-- the row of routine r was worked out again, and x is its ring name
+abbrev pub Improves : List ℕ → List ℕ → ℕ → ℕ → List ℕ → List ℕ → Bool → ℕ → Type 0
+Improves ks s at r before after changed x = (P : Program) → BodyOf P ks s at r → Improved P before after r changed x
 
 -- where the bodies start, and what each calls, as bits
 pub record Surveyed (P : Program) (starts calls : List ℕ) : Type 0 where
@@ -77,44 +79,62 @@ pub record Known (P : Program) (ks s starts calls : List ℕ) : Type 0 where
   pub holds : Holds P ks s
   pub surveyed : Surveyed P starts calls
 
+-- P is held, the offsets are where its bodies start, and the masks have the callers of each routine
+pub record Linked (P : Program) (ks s starts callers : List ℕ) : Type 0 where
+  pub holds : Holds P ks s
+  pub start : (r : ℕ) → r < length P → getD starts r 0 ≡ startOf P r
+  pub starts-long : length starts ≡ length P
+  pub callers-of : (r q : ℕ) → q < length P → Calls (body P q) r → Has (getD callers r 0) q
+  pub callers-below : Below callers (length P)
+
 -- the rows are on their way, and all are due
-pub record Started (ks s starts calls model : List ℕ) : Type 0 where
+pub record Started (ks s starts callers model : List ℕ) : Type 0 where
   pub program : Program
-  pub known : Known program ks s starts calls
+  pub linked : Linked program ks s starts callers
   pub long : row-bytes * length program ≤ length model
   pub before : List ℕ
-  pub partly : Partly program before model (λ r. r < length program)
+  pub partly : Partly program before model [] (λ r. r < length program)
 
--- where all rows were due, none is
-abbrev pub Settles : List ℕ → List ℕ → List ℕ → List ℕ → List ℕ → List ℕ → Type 0
-Settles ks s starts calls from to =
-    (P : Program) (before : List ℕ) → Known P ks s starts calls → Partly P before from (λ r. r < length P)
-    → Partly P before to (λ r. ⊥)
+-- where all rows were due, none is, and the ring names are those of the list
+abbrev pub Settles : List ℕ → List ℕ → List ℕ → List ℕ → List ℕ → List ℕ → List ℕ → Type 0
+Settles ks s starts callers from to names =
+    (P : Program) (before : List ℕ) → Linked P ks s starts callers → Partly P before from [] (λ r. r < length P)
+    → Partly P before to names (λ r. ⊥)
 
 -- the rows can be worked out
-pub record CanSettle (ks s starts calls model : List ℕ) : Type 0 where
+pub record CanSettle (ks s starts callers model : List ℕ) : Type 0 where
   pub program : Program
-  pub known : Known program ks s starts calls
+  pub linked : Linked program ks s starts callers
   pub long : row-bytes * length program ≤ length model
 
--- the buffer has the rows of the least model
-abbrev pub Settled : List ℕ → List ℕ → List ℕ → List ℕ → List ℕ → List ℕ → Type 0
-Settled ks s starts calls before after =
-    (P : Program) → Known P ks s starts calls → row-bytes * length P ≤ length before → Partly P before after (λ r. ⊥)
+-- the buffer has the rows of the least model, and the list has the ring names
+abbrev pub Settled : List ℕ → List ℕ → List ℕ → List ℕ → List ℕ → List ℕ → List ℕ → Type 0
+Settled ks s starts callers before after names =
+    (P : Program) → Linked P ks s starts callers → row-bytes * length P ≤ length before
+    → Partly P before after names (λ r. ⊥)
 
--- the rows in the buffer are those of the least model
-pub record Finished (ks s starts calls model : List ℕ) : Type 0 where
+-- the rows in the buffer are those of the least model, and the list has the ring names
+pub record Finished (calls model names : List ℕ) : Type 0 where
   pub program : Program
+  pub ks : List ℕ
+  pub s : List ℕ
+  pub starts : List ℕ
   pub known : Known program ks s starts calls
   pub long : row-bytes * length program ≤ length model
   pub before : List ℕ
-  pub partly : Partly program before model (λ r. ⊥)
+  pub partly : Partly program before model names (λ r. ⊥)
 
 -- the verdict is true of the program whose rows are in the buffer
-abbrev pub Pronounces : List ℕ → List ℕ → List ℕ → List ℕ → List ℕ → Verdict → Type 0
-Pronounces ks s starts calls model verdict =
-    (P : Program) (before : List ℕ) → Known P ks s starts calls → Partly P before model (λ r. ⊥) → Says P verdict
-    × Short verdict
+abbrev pub Pronounces : List ℕ → List ℕ → List ℕ → Verdict → Type 0
+Pronounces calls model names verdict =
+    (P : Program) (ks s starts before : List ℕ) → Known P ks s starts calls → Partly P before model names (λ r. ⊥)
+    → Says P verdict × Short verdict
+
+-- a program was surveyed, and its rows fit the buffer
+pub record CanJudgeKnown (ks s starts calls model : List ℕ) : Type 0 where
+  pub program : Program
+  pub known : Known program ks s starts calls
+  pub long : row-bytes * length program ≤ length model
 
 -- the program that was surveyed is judged
 abbrev pub JudgesKnown : List ℕ → List ℕ → List ℕ → List ℕ → List ℕ → List ℕ → Verdict → Type 0

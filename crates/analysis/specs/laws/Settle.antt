@@ -2,7 +2,7 @@
 use mathlib.Core.Path.{_≡_}
 use mathlib.Core.Bool.{Bool}
 use mathlib.Core.List.{List}
-use Prim.Native.Nat.{ℕ, _+_, _*_, _≤_, _<_}
+use Prim.Native.Nat.{ℕ, _*_, _≤_, _<_}
 use lib.ListN.{length, getD}
 use Rattle.table.specs.Program.{Program, params}
 use Rattle.rules.specs.Label.{Label, several}
@@ -11,7 +11,7 @@ use Rattle.rules.specs.laws.Satisfies.{Pairs}
 use Rattle.grid.specs.Grid.{Pair}
 use Rattle.rows.specs.Model.{RowBits, RingByte, Shaped, RowAdded}
 use Rattle.rows.specs.laws.Fixpoint.{Derived, Sound, UpToDate}
-use Rattle.analysis.specs.Answer.{row-bytes}
+use Rattle.table.specs.Constants.{row-bytes}
 
 -- the rows of the n routines in a buffer
 abbrev pub RowsOf : ℕ → List ℕ → Pairs
@@ -21,27 +21,34 @@ RowsOf n model r a b l = (r < n) × RowBits model r a b l
 abbrev pub WorkedOut : Program → List ℕ → Pairs
 WorkedOut P model = Derived P (RowsOf (length P) model)
 
--- the row of routine r has all that is worked out for it
-pub record Fresh (P : Program) (model : List ℕ) (r : ℕ) : Type 0 where
+-- x is the lowest name with a ring that is worked out for routine r, or there is none
+pub record Named (P : Program) (model : List ℕ) (r x : ℕ) : Type 0 where
+  pub ring : x < 16 → WorkedOut P model r x x several
+  pub lowest : (y : ℕ) → WorkedOut P model r y y several → (x ≤ y) × (x < 16)
+
+-- the row of routine r has all that is worked out for it, and its ring name is that of the list
+pub record Fresh (P : Program) (model names : List ℕ) (r : ℕ) : Type 0 where
   pub row : UpToDate P (RowsOf (length P) model) r
   pub ring : (x : ℕ) → WorkedOut P model r x x several → RingByte model r
+  pub name : Named P model r (getD names r 0)
 
 -- the rows have nothing that the model lacks, and all but those that are due are fresh; the rest is as it was before
-pub record Partly (P : Program) (before model : List ℕ) (due : ℕ → Type 0) : Type 0 where
+pub record Partly (P : Program) (before model names : List ℕ) (due : ℕ → Type 0) : Type 0 where
   pub long : length model ≡ length before
   pub rest : (i : ℕ) → row-bytes * length P ≤ i → getD model i 0 ≡ getD before i 0
   pub shaped : Shaped (length P) model
   pub sound : Sound P (RowsOf (length P) model)
   pub ring-sound : (r : ℕ) → r < length P → RingByte model r → (x : ℕ) × Ring P r x
-  pub fresh : (r : ℕ) → r < length P → (due r → ⊥) → Fresh P model r
+  pub fresh : (r : ℕ) → r < length P → (due r → ⊥) → Fresh P model names r
 
 -- the grid has the pairs worked out in the body of routine r from the rows in the buffer
 pub record GridOf (P : Program) (model : List ℕ) (r : ℕ) (g : List (List ℕ)) : Type 0 where
   pub only : (a b : ℕ) (l : Label) → Pair g a b l → WorkedOut P model r a b l
   pub all : (a b : ℕ) (l : Label) → WorkedOut P model r a b l → Pair g a b l
 
--- after is before with the row of routine r worked out again
-pub record Improved (P : Program) (before after : List ℕ) (r : ℕ) (changed : Bool) : Type 0 where
+-- after is before with the row of routine r worked out again, and x is its ring name
+pub record Improved (P : Program) (before after : List ℕ) (r : ℕ) (changed : Bool) (x : ℕ) : Type 0 where
   pub grid : List (List ℕ)
   pub pairs : GridOf P before r grid
   pub added : RowAdded before after r (params P r) grid changed
+  pub named : Named P before r x

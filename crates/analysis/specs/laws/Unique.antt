@@ -18,7 +18,8 @@ use Rattle.analysis.specs.declared.Verdict.{Verdict}
 use Rattle.analysis.specs.declared.Verdict.the-variants.{Clear as SaysClear, Ring as SaysRing}
 use Rattle.analysis.specs.declared.Answer.{Answer}
 use Rattle.analysis.specs.declared.Answer.the-variants.{Judged}
-use Rattle.analysis.specs.Answer.{row-bytes, row-names, Flag, Cell, Models, Says, JudgedAs, Analysed}
+use Rattle.table.specs.Constants.{row-bytes, row-names}
+use Rattle.analysis.specs.Answer.{Flag, Cell, Models, Says, JudgedAs, Analysed}
 
 -- a fact has one flag
 pub flag-unique : (v w : ℕ) (Q : Type 0) → Flag v Q → Flag w Q → v ≡ w

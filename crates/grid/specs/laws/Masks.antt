@@ -95,6 +95,17 @@ bits-or {a} {b} p q = record {
   from = λ j h. ⊎-elim (λ x. has-left a b j (p .from j x)) (λ x. has-right a b j (q .from j x)) h;
 }
 
+-- the bits of a that b has not, as `(a | b) ^ b`
+pub bits-beyond : (a b : ℕ) → Bits (bitXor (bitOr a b) b) (λ j. Has a j × (Has b j → ⊥))
+bits-beyond a b = record {
+  to = λ j h. fwd j h (ℕ-discrete (b / 2 ^ j % 2) 1);
+  from = λ j h. let x = h .0 in let y = h .1 in omega (arith, xor-bit (bitOr a b) b j, or-bit a b j);
+}
+  where
+    fwd : (j : ℕ) → Has (bitXor (bitOr a b) b) j → Dec (Has b j) → Has a j × (Has b j → ⊥)
+    fwd j h (yes p) = absurd (omega (arith, xor-bit (bitOr a b) b j, or-bit a b j))
+    fwd j h (no p) = (omega (arith, xor-bit (bitOr a b) b j, or-bit a b j), p)
+
 -- one bit times a mask, as `(s >> k) % 2 * m`
 pub bits-times : (s k m : ℕ) → Bits (s / 2 ^ k % 2 * m) (λ j. Has s k × Has m j)
 bits-times s k m = record {

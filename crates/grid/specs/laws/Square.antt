@@ -27,16 +27,17 @@ pub square-of : (g : List (List ℕ)) (us : List Val) → length g ≡ 16
     → shadow (each (List ℕ) (inArray ℕ (UInt w16 .own) 16) g us) → Square g
 square-of g us l h = record { rows = l; columns = λ a la. row-long 16 g us h a (omega arith) }
 
--- a store of a mask leaves it square
-pub square-set : (g : List (List ℕ)) (a b v : ℕ) → a < 16 → Square g → Square (set g a (set (getD g a []) b v))
-square-set g a b v l s = record {
-  rows = length-set g a (set (getD g a []) b v) ∙ s .rows;
+-- a store of a row leaves it square, and so does a store of a mask
+pub square-put :
+    (g : List (List ℕ)) (a : ℕ) (t : List ℕ) → a < 16 → length t ≡ 16 → Square g → Square (set g a t)
+square-put g a t l e s = record {
+  rows = length-set g a t ∙ s .rows;
   columns = λ i li. step i li (ℕ-discrete i a);
 }
   where
-    step : (i : ℕ) → i < 16 → Dec (i ≡ a) → length (getD (set g a (set (getD g a []) b v)) i []) ≡ 16
-    step i li (yes e) =
-        let r = s .rows in
-        rw (e, getD-set-same g a (set (getD g a []) b v) [] (omega arith))
-        (length-set (getD g a []) b v ∙ s .columns a l)
-    step i li (no n) = rw (getD-set-other g a i (set (getD g a []) b v) [] n) (s .columns i li)
+    step : (i : ℕ) → i < 16 → Dec (i ≡ a) → length (getD (set g a t) i []) ≡ 16
+    step i li (yes q) = let r = s .rows in rw (q, getD-set-same g a t [] (omega arith)) e
+    step i li (no n) = rw (getD-set-other g a i t [] n) (s .columns i li)
+
+pub square-set : (g : List (List ℕ)) (a b v : ℕ) → a < 16 → Square g → Square (set g a (set (getD g a []) b v))
+square-set g a b v l s = square-put g a (set (getD g a []) b v) l (length-set (getD g a []) b v ∙ s .columns a l) s

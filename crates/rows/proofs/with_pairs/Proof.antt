@@ -11,11 +11,11 @@ use Rattle.rows.proofs.with_pairs.Statement.{statement}
 use Rattle.rows.proofs.with_pairs.Tie as tie
 
 abbrev Inv-loop : tie.InvT-loop
-Inv-loop model₀ start k g changed₀ a₀ a-end model changed a =
+Inv-loop model₀ start g k changed₀ a₀ a-end model changed a =
     (a-end ≡ k + 1) × (a ≤ a-end) × Added (InGrid start g (k + 1) a) model₀ model changed
 
 abbrev μ-loop : tie.MeasureT-loop
-μ-loop model₀ start k g changed₀ a₀ a-end model changed a = a-end - a
+μ-loop model₀ start g k changed₀ a₀ a-end model changed a = a-end - a
 
 add-a-end : tie.Need-add-a-end Inv-loop μ-loop
 add-a-end c = search needs
@@ -26,8 +26,8 @@ loop-holds c = (refl, omega arith, added-none _ _ (λ i j w. absurd (omega arith
 mul-row : tie.Need-mul-row Inv-loop μ-loop
 mul-row c = search needs
 
-array-copy-out-row : tie.Need-array-copy-out-row Inv-loop μ-loop
-array-copy-out-row c = search needs
+element-copy-out-row : tie.Need-element-copy-out-row Inv-loop μ-loop
+element-copy-out-row c = search needs
 
 with-cells-requires : tie.Need-with-cells-requires Inv-loop μ-loop
 with-cells-requires c κs = search needs
@@ -45,7 +45,7 @@ loop-again c =
     let p = s .before .before .before .before .before .before .args in (
       refl,
       omega arith,
-      added-more (λ a. InRow (p .start) a (getD (p .t3) a []) (p .k + 1)) (l .a) _ _ _
+      added-more (λ a. InRow (p .start) a (getD (p .g .now) a []) (p .k + 1)) (l .a) _ _ _
           (l .changed) (s .with-cells .result) (l .inv .2) (s .with-cells .ensures),
     )
 
@@ -67,7 +67,7 @@ with-pairs-spec =
     add-a-end
     loop-holds
     mul-row
-    array-copy-out-row
+    element-copy-out-row
     with-cells-requires
     add-a
     loop-less

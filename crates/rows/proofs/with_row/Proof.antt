@@ -23,9 +23,9 @@ returns : tie.Need-returns
 returns c =
     let q = c .before .before in
     let p = q .before .before .before .before in
-    let s = p .before .before .before in
+    let s = p .before .before .before .before in
     let a = s .args in
-    row-added (a .model .now) _ _ (a .r) (a .k) (a .g) (p .with-pairs .result) (q .with-ring .result) (s .pre .0)
+    row-added (a .model .now) _ _ (a .r) (a .k) (a .t4) (p .with-pairs .result) (q .with-ring .result) (s .pre .0)
     (λ i. c .slice-known3 .given i .fits) (s .pre .2) (p .with-pairs .ensures) (q .with-ring .ensures)
 
 pub with-row-spec : {M : Type 1} → statement M

@@ -1,14 +1,13 @@
 -- `read_bodies` meets its contract: the answer from the first body equals the answer from the body that is read next.
-use mathlib.Core.Path.{_≡_, refl, sym, ap, _∙_}
-use native.Mathlib.Omega.{arith}
-use Prim.Native.Nat.{_+_, _-_, _≤_}
+use mathlib.Core.Path.{_≡_, sym, _∙_}
+use Prim.Native.Nat.{_-_, _≤_}
 use lib.ListN.{length, getD, drop}
 use Rattle.table.specs.Constants.{most-params}
 use Rattle.table.specs.Check.{bodies}
 use Rattle.table.specs.Answer.{checkedOf}
 use Rattle.table.specs.laws.Sound.{small-each}
 use Rattle.table.specs.laws.Readers.{checkedFrom}
-use Rattle.table.proofs.HeaderLaws.{fresh, mask, mask-fits, head-ready, from-start, body-bad, body-read}
+use Rattle.table.proofs.HeaderLaws.{from-start, body-bad, body-read}
 use Rattle.table.proofs.HeaderLaws.{bodies-over, bodies-done}
 use borrow.Author.Needs.{needs}
 use native.Mathlib.Omega.{arith}
@@ -34,38 +33,13 @@ shared-slice-read-wide c = search needs
 wide-requires : tie.Need-wide-requires Inv-loop μ-loop
 wide-requires c κs = search needs
 
-add-read-block : tie.Need-add-read-block Inv-loop μ-loop
-add-read-block c =
+next-body-requires : tie.Need-next-body-requires Inv-loop μ-loop
+next-body-requires c κs =
     let a = c .before .before .before .before .before .before .args in
     let small : getD (a .ks .now) (c .before .before .before .loop .r) 0 ≤ most-params = small-each (a .ks .now)
     (c .before .before .before .before .before .before .pre) (c .before .before .before .loop .r) in
     let e = c .wide .ensures in
-    record { fits = omega arith }
-
-shl-read-block : tie.Need-shl-read-block Inv-loop μ-loop
-shl-read-block c =
-    let a = c .before .before .before .before .before .before .args in
-    let small : getD (a .ks .now) (c .before .before .before .loop .r) 0 ≤ most-params = small-each (a .ks .now)
-    (c .before .before .before .before .before .before .pre) (c .before .before .before .loop .r) in
-    let e = c .wide .ensures in
-    omega arith
-
-sub-read-block : tie.Need-sub-read-block Inv-loop μ-loop
-sub-read-block c =
-    let a = c .before .before .before .before .before .before .args in
-    let small : getD (a .ks .now) (c .before .before .before .loop .r) 0 ≤ most-params = small-each (a .ks .now)
-    (c .before .before .before .before .before .before .pre) (c .before .before .before .loop .r) in
-    let e = c .wide .ensures in
-    mask-fits (c .wide .result) (omega arith)
-
-read-block-requires : tie.Need-read-block-requires Inv-loop μ-loop
-read-block-requires c κs =
-    let a = c .before .before .before .before .before .before .args in
-    let small : getD (a .ks .now) (c .before .before .before .loop .r) 0 ≤ most-params = small-each (a .ks .now)
-    (c .before .before .before .before .before .before .pre) (c .before .before .before .loop .r) in
-    let e = c .wide .ensures in
-    head-ready (c .before .before .before .loop .at) (c .wide .result) (c .before .before .before .loop .items)
-    (omega arith) (c .before .before .before .loop .inv .0)
+    record { few-params = omega arith; few-items = c .before .before .before .loop .inv .0 }
 
 enum-known-next : tie.Need-enum-known-next Inv-loop μ-loop
 enum-known-next c = search needs
@@ -87,7 +61,7 @@ returns c =
     (c .before .before .before .before .wide .result) (c .before .before .before .before .wide .ensures)
     (let e = c .before .before .before .before .wide .ensures in omega arith)
     (c .before .before .before .before .before .before .before .loop .inv .0) (c .before .e .given .0 .0)
-    (sym (c .before .before .before .read-block .ensures) ∙ c .before .e .given .1))
+    (sym (c .before .before .before .next-body .ensures) ∙ c .before .e .given .1))
 
 add-r : tie.Need-add-r Inv-loop μ-loop
 add-r c = search needs
@@ -109,7 +83,7 @@ loop-again c =
     (let e = c .before .before .before .before .wide .ensures in omega arith)
     (c .before .before .before .before .before .before .before .loop .inv .0) (c .before .next .given .0 .0)
     (c .before .next .given .0 .1 .0)
-    (sym (c .before .before .before .read-block .ensures) ∙ c .before .next .given .1) in
+    (sym (c .before .before .before .next-body .ensures) ∙ c .before .next .given .1) in
     (g .0, omega arith, c .before .before .before .before .before .before .before .loop .inv .2 ∙ g .1)
 
 returns-2 : tie.Need-returns-2 Inv-loop μ-loop
@@ -133,10 +107,7 @@ read-bodies-spec =
     loop-holds
     shared-slice-read-wide
     wide-requires
-    add-read-block
-    shl-read-block
-    sub-read-block
-    read-block-requires
+    next-body-requires
     enum-known-next
     enum-known-e
     returns

@@ -5,10 +5,10 @@ use mathlib.Core.Bool.{Bool, true, false}
 use mathlib.Core.List.{List}
 use Prim.Native.Nat.{ℕ, _+_, _-_, _^_, _≤_, _<_}
 use lib.ListN.{length, getD, drop}
-use Rattle.table.specs.Constants.{most-routines, most-params, most-news, most-forks}
+use Rattle.table.specs.Constants.{most-routines, most-params, most-open, most-news, most-forks}
 use Rattle.table.specs.Program.{Code, news, forks, items, programItems}
 use Rattle.table.specs.Check.{Item, aNew, aLock, aFork, aChoice, aCall, Place, Block, ok, bad}
-use Rattle.table.specs.Check.{Head, more, closed, wrong, callItem, block, item, Outcome, refused, accepted}
+use Rattle.table.specs.Check.{Head, more, closed, wrong, callItem, block, item, atHead, Outcome, refused, accepted}
 use Rattle.table.specs.laws.ScopeMask.{bits}
 use Rattle.table.specs.declared.bodies.Counts.{Counts}
 use Rattle.table.specs.declared.bodies.Opening.{Opening}
@@ -100,6 +100,19 @@ pub record Ready (at own m : ℕ) (n : Counts) : Type 0 where
   pub few-forks : n .forks ≤ most-forks
   pub below : m < 2 ^ (own + n .news + 1)
   pub few-items : n .items ≤ at
+
+-- the counts at the head of a body, with i items before it
+abbrev pub fresh : ℕ → Counts
+fresh i = record { news = 0; forks = 0; items = i }
+
+-- what the reader of a body with k parameters answers, with i items before it
+abbrev pub bodyAnswer : List ℕ → List ℕ → ℕ → ℕ → ℕ → BlockRead
+bodyAnswer ks s at k i = readOf s (fresh i) (block ks most-open false (atHead k) (drop at s))
+
+-- what holds of the numbers at the head of a body
+pub record AtBody (at k i : ℕ) : Type 0 where
+  pub few-params : k ≤ most-params
+  pub few-items : i ≤ at
 
 -- the blocks of an opening can be read
 abbrev pub CanRead : ℕ → ℕ → ℕ → Opening → Type 0

@@ -8,7 +8,8 @@ use lib.Seq.{ext-getD, getD-take, length-take-le}
 use Rattle.table.specs.Program.{Program}
 use Rattle.table.specs.Check.{accepted, checkTable}
 use Rattle.table.specs.WellFormed.{In}
-use Rattle.analysis.specs.Answer.{row-bytes, row-names, Says, Models, JudgedAs, Analysed}
+use Rattle.table.specs.Constants.{row-bytes, row-names}
+use Rattle.analysis.specs.Answer.{Says, Models, JudgedAs, Analysed}
 use Rattle.analysis.specs.declared.Verdict.{Verdict}
 use Rattle.analysis.specs.declared.Answer.{Answer}
 use Rattle.analysis.specs.declared.Answer.the-variants.{Judged}

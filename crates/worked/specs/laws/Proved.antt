@@ -19,7 +19,8 @@ use Rattle.rules.specs.laws.Table.{everyBelow, at-below, at-both}
 use Rattle.rules.specs.laws.Certificate.{Entry, entry, sameLabel?, same-label, modelOf, in-model, settled?, is-model}
 use Rattle.rules.specs.laws.Certificate.{rowLabels, is-row}
 use Rattle.rules.specs.laws.Judge.{clear?, is-clear, ringAt?, is-ring-at}
-use Rattle.analysis.specs.Answer.{row-bytes, row-names, Flag, Cell, Models, Says}
+use Rattle.table.specs.Constants.{row-bytes, row-names}
+use Rattle.analysis.specs.Answer.{Flag, Cell, Models, Says}
 use Rattle.analysis.specs.declared.Verdict.{Verdict}
 use Rattle.analysis.specs.declared.Verdict.the-variants.{Clear, Ring as RingOf}
 use Rattle.worked.specs.Cases.{CellByte, Case, rowsOf, Holds, cases}

@@ -1,15 +1,21 @@
 -- `lowest_ring` meets its contract: no routine passed so far is in the mask and tells of a ring.
-use mathlib.Core.Path.{_≡_, refl, sym, ap, _∙_}
 use mathlib.Core.Logic.{⊎-elim}
-use Prim.Native.Nat.{_-_}
-use Rattle.analysis.proofs.DueLaws.{NoneBelow, none-more}
+use Prim.Native.Nat.{ℕ, _-_, _<_}
+use mathlib.Core.List.{List}
+use Rattle.grid.specs.Rows.{Has}
+use Rattle.rows.specs.Model.{RingByte}
+use borrow.Author.Count.{below-more}
 use borrow.Author.Needs.{needs}
 use native.Mathlib.Omega.{arith}
 use Rattle.analysis.proofs.due.lowest_ring.Statement.{statement}
 use Rattle.analysis.proofs.due.lowest_ring.Tie as tie
 
+-- routine q is not in the mask, or its row tells of no ring
+abbrev Passed : List ℕ → ℕ → ℕ → Type 0
+Passed model mask q = Has mask q → RingByte model q → ⊥
+
 abbrev Inv-loop : tie.InvT-loop
-Inv-loop model n mask r₀ r = NoneBelow model mask r
+Inv-loop model n mask r₀ r = (q : ℕ) → q < r → Passed model mask q
 
 abbrev μ-loop : tie.MeasureT-loop
 μ-loop model n mask r₀ r = n - r
@@ -47,7 +53,7 @@ loop-again : tie.Need-loop-again Inv-loop μ-loop
 loop-again c =
     let a = c .before .before .before .args in
     let l = c .before .before .loop in
-    none-more (a .model .now) (a .mask) (l .r) (l .inv) (λ h b. ⊎-elim (λ w. w .2 .left b) (λ w. w .left h)
+    below-more (Passed (a .model .now) (a .mask)) (l .r) (l .inv) (λ h b. ⊎-elim (λ w. w .2 .left b) (λ w. w .left h)
     (c .if1 .came))
 
 returns-2 : tie.Need-returns-2 Inv-loop μ-loop

@@ -1,7 +1,7 @@
 -- `improve` meets its contract: what is worked out in the body is added to the row.
-use mathlib.Core.Path.{_≡_, refl, sym, ap, _∙_}
 use native.Mathlib.Omega.{arith}
 use Rattle.analysis.proofs.LoopLaws.{routines, few-params, added-by}
+use Rattle.analysis.proofs.WorkLaws.{named-by}
 use borrow.Author.Needs.{needs}
 use Rattle.analysis.proofs.settle.improve.Statement.{statement}
 use Rattle.analysis.proofs.settle.improve.Tie as tie
@@ -27,12 +27,18 @@ worked-out-requires c κs =
       long = p .long;
     }
 
+ring-name-requires : tie.Need-ring-name-requires
+ring-name-requires c κs = search needs
+
+cast-name : tie.Need-cast-name
+cast-name c = let l = c .ring-name .ensures .within in search needs
+
 with-row-requires : tie.Need-with-row-requires
 with-row-requires c κs =
-    let a = c .before .before .before .before .before .before .before .before .args in
-    let p = c .before .before .before .before .before .before .before .before .pre in
+    let a = c .before .before .before .before .before .before .before .before .before .args in
+    let p = c .before .before .before .before .before .before .before .before .before .pre in
     let f = few-params (p .program) (a .ks .now) (a .s .now) (a .at) (a .r) (p .body-of) in
-    let e = c .before .before .before .size .ensures .0 in
+    let e = c .before .before .before .before .size .ensures .0 in
     let l = p .long in
     let b = p .body-of .listed in
     (omega arith, omega arith, p .shaped)
@@ -43,13 +49,17 @@ same-length c =
 
 returns : tie.Need-returns
 returns c =
-    let a = c .before .before .before .before .before .before .before .before .before .before .before .args in
-    let k = c .before .before .before .before .before .before .size in
+    let a = c .before .before .before .before .before .before .before .before .before .before .before .before .args in
+    let k = c .before .before .before .before .before .before .before .size in
+    let g = c .before .before .before .before .before .worked-out in
+    let x = c .before .before .before .before .ring-name in
     λ P o. record {
-      grid = c .before .before .before .before .worked-out .result;
-      pairs = c .before .before .before .before .worked-out .ensures P (a .r) o;
+      grid = g .result;
+      pairs = g .ensures P (a .r) o;
       added = added-by P (a .ks .now) (a .s .now) (a .at) (a .r) o (k .result) (k .ensures .0)
           (c .before .before .with-row .ensures);
+      named = named-by P (a .model .now) (a .r) (g .result) (x .result) (omega (arith, g .ok .1 .0 .1))
+          (g .ensures P (a .r) o) (x .ensures);
     }
 
 pub improve-spec : {M : Type 1} → statement M
@@ -59,6 +69,8 @@ improve-spec =
     shared-slice-read-size
     size-requires
     worked-out-requires
+    ring-name-requires
+    cast-name
     with-row-requires
     same-length
     returns)

@@ -1,6 +1,5 @@
 -- `survey_bodies` meets its contract: the routines passed so far are told of, and the next body is at the offset.
-use mathlib.Core.Path.{_≡_, refl}
-use Prim.Native.Nat.{_-_, _≤_}
+use Prim.Native.Nat.{_-_}
 use lib.ListN.{length}
 use Rattle.analysis.proofs.SurveyLaws.{Surveying, few, survey-start, scan-ready, survey-turn, all-surveyed}
 use borrow.Author.Needs.{needs}
@@ -15,27 +14,27 @@ abbrev μ-loop : tie.MeasureT-loop
 μ-loop ks s starts₀ calls₀ at₀ r₀ starts calls at r = length ks - r
 
 loop-holds : tie.Need-loop-holds Inv-loop μ-loop
-loop-holds c = survey-start _ _ _ _ refl refl
+loop-holds c = survey-start _ _ _ _ (c .before .before .pre .1) (c .before .before .pre .2)
 
 scan-requires : tie.Need-scan-requires Inv-loop μ-loop
 scan-requires c κs =
     let a = c .before .before .before .before .args in
     let l = c .before .loop in
     scan-ready (a .ks .now) (a .s .now) (l .starts) (l .calls) (l .at) (l .r) (l .inv) (omega arith)
-    (c .before .before .before .before .pre)
+    (c .before .before .before .before .pre .0)
 
 mul-starts : tie.Need-mul-starts Inv-loop μ-loop
 mul-starts c =
     let a = c .before .before .before .before .before .args in
     let l = c .before .before .loop in
-    let f = few (a .ks .now) (a .s .now) (c .before .before .before .before .before .pre) in
+    let f = few (a .ks .now) (a .s .now) (c .before .before .before .before .before .pre .0) in
     search needs
 
-array-write-starts : tie.Need-array-write-starts Inv-loop μ-loop
-array-write-starts c =
+element-write-starts : tie.Need-element-write-starts Inv-loop μ-loop
+element-write-starts c =
     let a = c .before .before .before .before .before .args in
     let l = c .before .before .loop in
-    let f = few (a .ks .now) (a .s .now) (c .before .before .before .before .before .pre) in
+    let f = few (a .ks .now) (a .s .now) (c .before .before .before .before .before .pre .0) in
     let e = l .inv .starts-long in
     omega arith
 
@@ -43,14 +42,14 @@ mul-calls : tie.Need-mul-calls Inv-loop μ-loop
 mul-calls c =
     let a = c .before .before .before .before .before .args in
     let l = c .before .before .loop in
-    let f = few (a .ks .now) (a .s .now) (c .before .before .before .before .before .pre) in
+    let f = few (a .ks .now) (a .s .now) (c .before .before .before .before .before .pre .0) in
     search needs
 
-array-write-calls : tie.Need-array-write-calls Inv-loop μ-loop
-array-write-calls c =
+element-write-calls : tie.Need-element-write-calls Inv-loop μ-loop
+element-write-calls c =
     let a = c .before .before .before .before .before .args in
     let l = c .before .before .loop in
-    let f = few (a .ks .now) (a .s .now) (c .before .before .before .before .before .pre) in
+    let f = few (a .ks .now) (a .s .now) (c .before .before .before .before .before .pre .0) in
     let e = l .inv .calls-long in
     omega arith
 
@@ -65,7 +64,7 @@ loop-again c =
     let a = c .before .before .before .before .before .args in
     let l = c .before .before .loop in
     survey-turn (a .ks .now) (a .s .now) (l .starts) (l .calls) (l .at) (l .r) (l .inv) (omega arith)
-    (c .scan .result .next) (c .scan .result .calls) (c .before .before .before .before .before .pre)
+    (c .scan .result .next) (c .scan .result .calls) (c .before .before .before .before .before .pre .0)
     (c .scan .ensures)
 
 returns : tie.Need-returns Inv-loop μ-loop
@@ -73,7 +72,7 @@ returns c =
     let a = c .before .before .before .before .args in
     let l = c .before .loop in
     all-surveyed (a .ks .now) (a .s .now) (l .starts) (l .calls) (l .at) (l .r)
-    (c .before .before .before .before .pre) (omega arith) (l .inv)
+    (c .before .before .before .before .pre .0) (omega arith) (l .inv)
 
 pub survey-bodies-spec : {M : Type 1} → statement M
 survey-bodies-spec =
@@ -84,9 +83,9 @@ survey-bodies-spec =
     loop-holds
     scan-requires
     mul-starts
-    array-write-starts
+    element-write-starts
     mul-calls
-    array-write-calls
+    element-write-calls
     add-r
     loop-less
     loop-again

@@ -1,10 +1,28 @@
--- `several` meets its contract: each product adds the mixes with walks on one side.
+-- `several` meets its contract: each product adds the mixes with walks on one side, and without a mix there is nothing.
+use Prim.Native.Nat.{ℕ}
 use borrow.Author.Needs.{needs}
 use Rattle.grid.specs.Rows.{Rel, Edge, Then, Walk, Star, Same}
 use Rattle.grid.specs.Planes.{Chosen, Plane}
+use Rattle.grid.specs.laws.Masks.{has-zero}
 use Rattle.grid.proofs.Relations.{same-then, same-walk, star-left, star-right}
 use Rattle.grid.proofs.closing.several.Statement.{statement}
 use Rattle.grid.proofs.closing.several.Tie as tie
+
+mixed-requires : tie.Need-mixed-requires
+mixed-requires c κs = search needs
+
+any-requires : tie.Need-any-requires
+any-requires c κs = search needs
+
+returns : tie.Need-returns
+returns c =
+    let m = c .before .before .mixed in
+    let none : (i j : ℕ) → Edge (m .result) i j → ⊥ =
+    λ i j e. has-zero j (rw (c .if1 .taken) at (c .before .any .ensures .from j (i, e))) in
+    record {
+      to = λ i j e. absurd (none i j e);
+      from = λ i j p. absurd (none (p .0) (p .1) (m .ensures .from (p .0) (p .1) (p .3)));
+    }
 
 chosen-requires : tie.Need-chosen-requires
 chosen-requires c κs = search needs
@@ -12,21 +30,18 @@ chosen-requires c κs = search needs
 close-rows-requires : tie.Need-close-rows-requires
 close-rows-requires c κs = search needs
 
-mixed-requires : tie.Need-mixed-requires
-mixed-requires c κs = search needs
-
 product-requires : tie.Need-product-requires
 product-requires c κs = search needs
 
 product-requires-2 : tie.Need-product-requires-2
 product-requires-2 c κs = search needs
 
-returns : tie.Need-returns
-returns c =
-    let m = c .before .before .mixed in
-    let r = c .before .before .before .close-rows in
-    let e = c .before .before .before .before .chosen in
-    let s = c .before .before .before .before .before in
+returns-2 : tie.Need-returns-2
+returns-2 c =
+    let r = c .before .before .close-rows in
+    let e = c .before .before .before .chosen in
+    let m = c .before .before .before .before .before .before .mixed in
+    let s = c .before .before .before .before .before .before .before in
     let W : Rel = Plane (s .args .p .now) in
     let all : Same (Chosen (s .args .p .now) (s .args .c)) W =
     record {
@@ -50,9 +65,11 @@ pub several-spec : {M : Type 1} → statement M
 several-spec =
     tie.close
     (tie.spec
+    mixed-requires
+    any-requires
+    returns
     chosen-requires
     close-rows-requires
-    mixed-requires
     product-requires
     product-requires-2
-    returns)
+    returns-2)

@@ -22,8 +22,8 @@ loop-holds c = passed-none 0 16 _ _ refl
 mul-row : tie.Need-mul-row Inv-loop μ-loop
 mul-row c = search needs
 
-array-copy-out-row : tie.Need-array-copy-out-row Inv-loop μ-loop
-array-copy-out-row c = search needs
+element-copy-out-row : tie.Need-element-copy-out-row Inv-loop μ-loop
+element-copy-out-row c = search needs
 
 any-requires : tie.Need-any-requires Inv-loop μ-loop
 any-requires c κs = search needs
@@ -54,7 +54,7 @@ returns : tie.Need-returns Inv-loop μ-loop
 returns c =
     let s = c .before .before in
     rows-all _ _ _ _ (c .before .loop .inv) (omega arith)
-    (λ a l p. cell-row (s .args .t1) 16 a (p .0) l (s .good .0 .1 .0 .1) (p .1))
+    (λ a l p. cell-row (s .args .g .now) 16 a (p .0) l (s .pre .rows) (p .1))
 
 pub labels-spec : {M : Type 1} → statement M
 labels-spec =
@@ -64,7 +64,7 @@ labels-spec =
     μ-loop
     loop-holds
     mul-row
-    array-copy-out-row
+    element-copy-out-row
     any-requires
     mul-next
     array-write-next

@@ -19,38 +19,34 @@ shared-slice-read-size-2 c = search needs
 size-requires-2 : tie.Need-size-requires-2
 size-requires-2 c κs = search needs
 
-add-with-row : tie.Need-add-with-row
-add-with-row c = search needs
+add-put-row : tie.Need-add-put-row
+add-put-row c = search needs
 
-mul-with-row : tie.Need-mul-with-row
-mul-with-row c = search needs
+mul-put-row : tie.Need-mul-put-row
+mul-put-row c = search needs
 
-holder-requires : tie.Need-holder-requires
-holder-requires c κs = search needs
-
-thread-requires : tie.Need-thread-requires
-thread-requires c κs = search needs
-
-with-row-requires : tie.Need-with-row-requires
-with-row-requires c κs =
-    let b = c .before .before .before .before .before .before .before .before .before in
-    let a = b .args in (
-      row-ready (a .ks .now) (a .s .now) (a .rows .now) (a .w) (b .pre .0)
-          (c .before .before .before .before .size .result) (c .before .before .size2 .result) (c .thread .result)
-          (c .before .before .before .before .size .ensures .0) (c .before .before .size2 .ensures .0)
-          (c .thread .ensures),
+put-row-requires : tie.Need-put-row-requires
+put-row-requires c κs =
+    let b = c .before .before .before .before .before .before .before .before in
+    let a = b .args in
+    let q = c .before .before .before .size in
+    let k = c .before .size2 in (
+      row-ready (a .ks .now) (a .s .now) (a .rows .now) (a .at) (a .t) (b .pre .0) (q .result) (k .result)
+          (q .ensures .0) (k .ensures .0),
       b .pre .1,
+      b .pre .2,
     )
 
 returns : tie.Need-returns
 returns c =
-    let b = c .before .before .before .before .before .before .before .before .before .before in
+    let b = c .before .before .before .before .before .before .before .before .before in
     let a = b .args in
-    row-gains (a .ks .now) (a .s .now) (a .rows .now) (a .w) (b .pre .0)
-    (c .before .before .before .before .before .size .result) (c .before .before .before .size2 .result)
-    (c .before .thread .result) (c .before .before .before .before .before .size .ensures .0)
-    (c .before .before .before .size2 .ensures .0) (c .before .thread .ensures) (c .before .before .holder .result)
-    (c .before .before .holder .ensures) (c .with-row .ensures)
+    let q = c .before .before .before .before .size in
+    let k = c .before .before .size2 in (
+      row-gains (a .ks .now) (a .s .now) (a .rows .now) (a .at) (a .t) (b .pre .0) (q .result) (k .result)
+          (q .ensures .0) (k .ensures .0) (a .h) (c .put-row .ensures .0),
+      c .put-row .ensures .1,
+    )
 
 pub called-spec : {M : Type 1} → statement M
 called-spec =
@@ -61,9 +57,7 @@ called-spec =
     size-requires
     shared-slice-read-size-2
     size-requires-2
-    add-with-row
-    mul-with-row
-    holder-requires
-    thread-requires
-    with-row-requires
+    add-put-row
+    mul-put-row
+    put-row-requires
     returns)

@@ -1,0 +1,42 @@
+-- `list_judged` meets its contract: the first line, the pairs and the verdict, one after the other.
+use native.Mathlib.Omega.{arith}
+use Rattle.listing.specs.laws.Appending.{then}
+use borrow.Author.Needs.{needs}
+use Rattle.listing.proofs.list_judged.Statement.{statement}
+use Rattle.listing.proofs.list_judged.Tie as tie
+
+slice-aggregate-put-line : tie.Need-slice-aggregate-put-line
+slice-aggregate-put-line c = search needs
+
+put-line-requires : tie.Need-put-line-requires
+put-line-requires c κs = search needs
+
+put-rows-requires : tie.Need-put-rows-requires
+put-rows-requires c κs = (omega (arith, c .before .before .before .put-line .ensures .1), omega arith)
+
+put-verdict-requires : tie.Need-put-verdict-requires
+put-verdict-requires c κs =
+    let rows = c .before .before .before in
+    let line = rows .before .before .before .before in
+    (omega (arith, line .put-line .ensures .1, rows .put-rows .ensures .1), line .before .before .before .before .before .pre .1)
+
+same-length : tie.Need-same-length
+same-length c = search needs
+
+returns : tie.Need-returns
+returns c =
+    let f = c .before .before .before .before .before .before .before .before .before .before .put-line .ensures in
+    let g = c .before .before .before .before .before .before .put-rows .ensures in
+    let h = c .before .before .put-verdict .ensures in
+    (then (then (f .0) (g .0)) (h .0), omega (arith, f .1, g .1, h .1))
+
+pub list-judged-spec : {M : Type 1} → statement M
+list-judged-spec =
+    tie.close
+    (tie.spec
+    slice-aggregate-put-line
+    put-line-requires
+    put-rows-requires
+    put-verdict-requires
+    same-length
+    returns)

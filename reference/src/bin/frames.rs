@@ -1,0 +1,44 @@
+//! Writes what the program `cases` reads and what it must write.
+//!
+//! `frames FOLDER` writes FOLDER/stdin, tables in frames, and FOLDER/stdout, the
+//! reference's listings of them.
+
+use std::env;
+use std::fs;
+use std::path::Path;
+use std::process::ExitCode;
+
+use reference::frames::{all, encode, listings};
+
+fn write(folder: &Path) -> Result<String, String> {
+    let frames = all();
+    let (stdin, stdout) = (encode(&frames), listings(&frames));
+    for (name, bytes) in [("stdin", &stdin), ("stdout", &stdout)] {
+        let path = folder.join(name);
+        fs::write(&path, bytes).map_err(|error| format!("{}: {error}", path.display()))?;
+    }
+    Ok(format!(
+        "{} tables in {} bytes, listings of {} bytes",
+        frames.len(),
+        stdin.len(),
+        stdout.len()
+    ))
+}
+
+fn main() -> ExitCode {
+    let arguments: Vec<String> = env::args().skip(1).collect();
+    let written = match arguments.as_slice() {
+        [folder] => write(Path::new(folder)),
+        _ => Err("usage: frames FOLDER".to_string()),
+    };
+    match written {
+        Ok(summary) => {
+            println!("{summary}");
+            ExitCode::SUCCESS
+        }
+        Err(message) => {
+            eprintln!("{message}");
+            ExitCode::from(2)
+        }
+    }
+}

@@ -1,0 +1,764 @@
+//! An analyser made for speed. It is for the benchmark only, the mark that the archive is measured
+//! against; the naive analyser of `table` and `model` stays the reference, and `tests/fast.rs` holds
+//! this one against it.
+//!
+//! One pass over the bytes checks them, records the pair of each LOCK and lists each CALL, so that no
+//! byte is parsed a second time. Pairs are bit matrices, one a label. A routine is due while a row that
+//! it calls has changed; the routines due are the bits of one number. Nothing is taken from the heap.
+
+use std::mem::MaybeUninit;
+
+use crate::limits::{code, refusal, MAX_FORK, MAX_NEW, MAX_OPEN};
+use crate::limits::{CELL_OWN, CELL_SEVERAL, CELL_UNKNOWN, RING_BYTE, ROW_BYTES, ROW_SIDE};
+use crate::limits::{MAX_PARAMETERS, MAX_ROUTINES, MAX_SECTION};
+use crate::limits::{RING_BASE, RING_NAME, RING_ROUTINE};
+
+/// Names of a routine: name 0, the parameters and the locals.
+const NAMES: usize = 16;
+/// Labels: own 0, the forks 1 to 8, then these two.
+const LABELS: usize = 11;
+const OWN: usize = 0;
+const UNKNOWN: usize = 9;
+const SEVERAL: usize = 10;
+/// The holder where nothing is held.
+const NOTHING: u8 = 16;
+/// A CALL with a name takes three bytes or more.
+const CALL_BYTES: usize = 3;
+/// A small table has at most this many routines and body bytes; it needs little of the stack.
+const FEW_ROUTINES: usize = 8;
+const SMALL_SECTION: usize = 192;
+
+/// Row a of a matrix has the names b of the pairs (a, b), as 16 bits; four rows are one word.
+const LANES: usize = 4;
+const WORDS: usize = NAMES / LANES;
+/// The lowest bit of each row of a word.
+const LOWEST: u64 = 0x0001_0001_0001_0001;
+
+/// The first 4 × W rows of a matrix. A routine with few names has but few words.
+type Matrix<const W: usize> = [u64; W];
+
+/// A list of at most N things that lives on the stack and is not cleared before use.
+struct List<T: Copy, const N: usize> {
+    items: [MaybeUninit<T>; N],
+    len: usize,
+}
+
+impl<T: Copy, const N: usize> List<T, N> {
+    fn new() -> Self {
+        List {
+            items: [const { MaybeUninit::uninit() }; N],
+            len: 0,
+        }
+    }
+
+    /// Adds one at the end and gives it back to be filled.
+    fn push(&mut self, item: T) -> &mut T {
+        let place = &mut self.items[self.len];
+        self.len += 1;
+        place.write(item)
+    }
+
+    fn all_mut(&mut self) -> &mut [T] {
+        // SAFETY: `push` has written the first `len` things.
+        unsafe { std::slice::from_raw_parts_mut(self.items.as_mut_ptr().cast(), self.len) }
+    }
+}
+
+/// What callers see of a routine: for each kind of label, bit 8 × a + b is the pair (a, b).
+#[derive(Clone, Copy, PartialEq, Eq, Default)]
+struct Row {
+    own: u64,
+    unknown: u64,
+    several: u64,
+}
+
+impl Row {
+    /// What this row has and the other has not.
+    fn without(self, other: Row) -> Row {
+        Row {
+            own: self.own & !other.own,
+            unknown: self.unknown & !other.unknown,
+            several: self.several & !other.several,
+        }
+    }
+}
+
+/// One CALL: where its names stand in the section, its place, and what it has taken of the row.
+#[derive(Clone, Copy)]
+struct Call {
+    names: u16,
+    routine: u8,
+    holder: u8,
+    thread: u8,
+    taken: Row,
+}
+
+/// What is known of one routine.
+#[derive(Clone, Copy)]
+struct Body {
+    /// The recorded pairs of each label. They only grow.
+    planes: [Matrix<WORDS>; LABELS],
+    /// The first and the second names of the pairs of each label, as bits.
+    firsts: [u16; LABELS],
+    seconds: [u16; LABELS],
+    /// The labels whose planes are not empty, as bits.
+    used: u16,
+    /// The names with a ring, as bits.
+    rings: u16,
+    parameters: u8,
+    /// How many names the routine has, name 0 with them.
+    names: u8,
+    /// Its calls are these of the list of calls.
+    first_call: u16,
+    after_calls: u16,
+    row: Row,
+    /// Routines as bits: those it calls, those that call it, and those whose rows have changed since
+    /// their pairs were taken.
+    callees: u64,
+    callers: u64,
+    changed: u64,
+}
+
+impl Body {
+    fn new(parameters: u8, first_call: usize) -> Body {
+        Body {
+            planes: [[0; WORDS]; LABELS],
+            firsts: [0; LABELS],
+            seconds: [0; LABELS],
+            used: 0,
+            rings: 0,
+            parameters,
+            names: parameters + 1,
+            first_call: first_call as u16,
+            after_calls: first_call as u16,
+            row: Row::default(),
+            callees: 0,
+            callers: 0,
+            changed: 0,
+        }
+    }
+
+    /// Adds the pairs from `held` to the names in `wanted`; says whether that added any. A pair with
+    /// equal ends is dropped unless its label is several.
+    #[inline(always)]
+    fn record(&mut self, label: usize, held: usize, wanted: u64) -> bool {
+        let dropped = if label == SEVERAL { 0 } else { 1 << held };
+        let kept = wanted & !dropped;
+        let word = &mut self.planes[label][held / LANES];
+        let grown = *word | kept << (NAMES * (held % LANES));
+        let more = grown != *word;
+        *word = grown;
+        let any = u16::from(kept != 0);
+        self.firsts[label] |= any << held;
+        self.seconds[label] |= kept as u16;
+        self.used |= any << label;
+        more
+    }
+}
+
+/// The bodies of a table, R at most, and C calls at most: those with names, as a routine without
+/// parameters has an empty row.
+struct Program<const R: usize, const C: usize> {
+    bodies: List<Body, R>,
+    calls: List<Call, C>,
+}
+
+/// What holds inside an open block.
+#[derive(Clone, Copy)]
+struct Place {
+    /// The names in scope, as bits.
+    scope: u32,
+    holder: u8,
+    thread: u8,
+    /// Whether the block is a first alternative.
+    first: bool,
+}
+
+/// Writes the model into the head of `buffer` and gives the verdict, as the archive's analysis does.
+pub fn analyse_number(table: &[u8], buffer: &mut [u8]) -> u32 {
+    let (counts, section) = match head(table) {
+        Ok(parts) => parts,
+        Err(number) => return number,
+    };
+    if counts.len() <= FEW_ROUTINES && section.len() <= SMALL_SECTION {
+        analyse::<FEW_ROUTINES, { SMALL_SECTION / CALL_BYTES }>(counts, section, buffer)
+    } else {
+        analyse::<MAX_ROUTINES, { MAX_SECTION / CALL_BYTES }>(counts, section, buffer)
+    }
+}
+
+/// `analyse_number` behind the head, for a table of at most R routines and C calls.
+#[inline(never)]
+fn analyse<const R: usize, const C: usize>(
+    counts: &[u8],
+    section: &[u8],
+    buffer: &mut [u8],
+) -> u32 {
+    let mut program = Program::<R, C> {
+        bodies: List::new(),
+        calls: List::new(),
+    };
+    if let Err(number) = read(counts, section, &mut program) {
+        return number;
+    }
+    if buffer.len() < ROW_BYTES * counts.len() {
+        return refusal::SHORT_BUFFER;
+    }
+    let calls = program.calls.all_mut();
+    let bodies = program.bodies.all_mut();
+    settle(section, bodies, calls);
+    for (body, bytes) in bodies.iter().zip(buffer.chunks_exact_mut(ROW_BYTES)) {
+        write_row(body, bytes);
+    }
+    verdict(bodies)
+}
+
+/// Refusals 1 to 6; the parameter counts and the body section.
+fn head(table: &[u8]) -> Result<(&[u8], &[u8]), u32> {
+    let Some((&n, rest)) = table.split_first() else {
+        return Err(refusal::EMPTY);
+    };
+    let n = n as usize;
+    if n == 0 || n > MAX_ROUTINES {
+        return Err(refusal::ROUTINE_COUNT);
+    }
+    if rest.len() < n + 2 {
+        return Err(refusal::HEADER_CUT);
+    }
+    let (counts, rest) = rest.split_at(n);
+    if counts[0] != 0 || counts.iter().any(|&k| k > MAX_PARAMETERS) {
+        return Err(refusal::PARAMETER_COUNT);
+    }
+    let said = u16::from_le_bytes([rest[0], rest[1]]) as usize;
+    let section = &rest[2..];
+    if said > MAX_SECTION {
+        return Err(refusal::SECTION_COUNT);
+    }
+    if said != section.len() {
+        return Err(refusal::SECTION_LENGTH);
+    }
+    Ok((counts, section))
+}
+
+/// Refusals 7 to 14; reads all bodies.
+fn read<const R: usize, const C: usize>(
+    counts: &[u8],
+    section: &[u8],
+    program: &mut Program<R, C>,
+) -> Result<(), u32> {
+    let mut at = 0;
+    for &parameters in counts {
+        at = read_body(counts, section, at, parameters, program)?;
+    }
+    if at < section.len() {
+        return Err(refusal::BYTES_LEFT);
+    }
+    link(program.bodies.all_mut());
+    Ok(())
+}
+
+/// Turns the routines that each body calls round: the callers of each.
+fn link(bodies: &mut [Body]) {
+    for caller in 0..bodies.len() {
+        for callee in ones(bodies[caller].callees) {
+            bodies[callee].callers |= 1 << caller;
+        }
+    }
+}
+
+/// The places of the bits of a number, lowest first.
+fn ones(mut bits: u64) -> impl Iterator<Item = usize> {
+    std::iter::from_fn(move || {
+        if bits == 0 {
+            return None;
+        }
+        let lowest = bits.trailing_zeros() as usize;
+        bits &= bits - 1;
+        Some(lowest)
+    })
+}
+
+/// Reads the body at an offset, up to and with the END that closes it; the offset after it.
+fn read_body<const R: usize, const C: usize>(
+    counts: &[u8],
+    section: &[u8],
+    at: usize,
+    parameters: u8,
+    program: &mut Program<R, C>,
+) -> Result<usize, u32> {
+    let calls = &mut program.calls;
+    let body = program.bodies.push(Body::new(parameters, calls.len));
+    let mut outside: Outside = [const { MaybeUninit::uninit() }; MAX_OPEN];
+    let mut reader = Reader {
+        at,
+        depth: 0,
+        here: Place {
+            scope: (2 << parameters) - 2,
+            holder: 0,
+            thread: OWN as u8,
+            first: false,
+        },
+    };
+    let (mut news, mut forks) = (0, 0);
+    loop {
+        match reader.byte(section, refusal::NO_CODE)? {
+            code::END => {
+                if reader.here.first {
+                    return Err(refusal::MISPLACED);
+                }
+                if reader.depth == 0 {
+                    break;
+                }
+                reader.close(&outside);
+            }
+            code::NEW => {
+                if news == MAX_NEW {
+                    return Err(refusal::TOO_MANY);
+                }
+                news += 1;
+                reader.here.scope |= 1 << (parameters + news);
+            }
+            code::LOCK => {
+                let (held, thread) = (reader.here.holder, reader.here.thread);
+                reader.open(&mut outside)?;
+                let name = reader.name(section)?;
+                if held != NOTHING {
+                    body.record(thread as usize, held as usize, 1 << name);
+                }
+                reader.here.holder = name;
+            }
+            code::FORK => {
+                reader.open(&mut outside)?;
+                if forks == MAX_FORK {
+                    return Err(refusal::TOO_MANY);
+                }
+                forks += 1;
+                reader.here.holder = NOTHING;
+                reader.here.thread = forks;
+            }
+            code::CHOICE => {
+                reader.open(&mut outside)?;
+                reader.here.first = true;
+            }
+            code::OTHER => {
+                if !reader.here.first {
+                    return Err(refusal::MISPLACED);
+                }
+                // One block closes and one opens, without the locals of the first alternative.
+                reader.close(&outside);
+                reader.open(&mut outside)?;
+            }
+            code::CALL => {
+                let call = reader.call(counts, section)?;
+                body.callees |= 1 << call.routine;
+                if call.names as usize != reader.at {
+                    calls.push(call);
+                }
+            }
+            _ => return Err(refusal::BAD_CODE),
+        }
+    }
+    body.names += news;
+    body.after_calls = calls.len as u16;
+    Ok(reader.at)
+}
+
+/// What held outside each open block, the outermost first.
+type Outside = [MaybeUninit<Place>; MAX_OPEN];
+
+/// How far a body has been read, how many blocks are open, and what holds in the innermost. The bytes
+/// and the outer places are kept apart, so that this stays in registers.
+struct Reader {
+    at: usize,
+    depth: usize,
+    here: Place,
+}
+
+impl Reader {
+    /// The next byte, or the refusal that is due without it.
+    #[inline(always)]
+    fn byte(&mut self, section: &[u8], number: u32) -> Result<u8, u32> {
+        let byte = *section.get(self.at).ok_or(number)?;
+        self.at += 1;
+        Ok(byte)
+    }
+
+    /// The next byte, which must be a name in scope.
+    #[inline(always)]
+    fn name(&mut self, section: &[u8]) -> Result<u8, u32> {
+        let name = self.byte(section, refusal::BAD_NAME)?;
+        if name < NAMES as u8 && self.here.scope >> name & 1 == 1 {
+            Ok(name)
+        } else {
+            Err(refusal::BAD_NAME)
+        }
+    }
+
+    /// Opens a block, unless it would be a seventeenth.
+    #[inline(always)]
+    fn open(&mut self, outside: &mut Outside) -> Result<(), u32> {
+        let place = outside.get_mut(self.depth).ok_or(refusal::TOO_DEEP)?;
+        place.write(self.here);
+        self.depth += 1;
+        self.here.first = false;
+        Ok(())
+    }
+
+    /// Closes the innermost open block, of which there is one.
+    #[inline(always)]
+    fn close(&mut self, outside: &Outside) {
+        self.depth -= 1;
+        // SAFETY: `open` has written the places below the depth.
+        self.here = unsafe { outside[self.depth].assume_init() };
+    }
+
+    /// The rest of a CALL.
+    #[inline(always)]
+    fn call(&mut self, counts: &[u8], section: &[u8]) -> Result<Call, u32> {
+        let routine = self.byte(section, refusal::BAD_ROUTINE)?;
+        let count = counts.get(routine as usize).ok_or(refusal::BAD_ROUTINE)?;
+        let names = self.at as u16;
+        for _ in 0..*count {
+            self.name(section)?;
+        }
+        Ok(Call {
+            names,
+            routine,
+            holder: self.here.holder,
+            thread: self.here.thread,
+            taken: Row::default(),
+        })
+    }
+}
+
+/// Works out rows until none is due, in sweeps from the highest routine down. A routine without
+/// parameters has an empty row, which no caller waits for: its rings are worked out once, at the end.
+fn settle(section: &[u8], bodies: &mut [Body], calls: &mut [Call]) {
+    let mut seen = 0u64;
+    for (routine, body) in bodies.iter().enumerate() {
+        seen |= u64::from(body.parameters != 0) << routine;
+    }
+    let mut due = seen;
+    let mut fresh = seen;
+    let mut last = 0;
+    while due != 0 {
+        let routine = next_due(due, last);
+        last = routine;
+        due ^= 1 << routine;
+        let grown = take_calls(section, bodies, calls, routine);
+        if grown || fresh >> routine & 1 == 1 {
+            due |= work_out(bodies, routine) & seen;
+        }
+        fresh &= !(1 << routine);
+    }
+    for routine in ones(!seen & u64::MAX >> (MAX_ROUTINES - bodies.len())) {
+        take_calls(section, bodies, calls, routine);
+        work_out(bodies, routine);
+    }
+}
+
+/// The highest routine due below the last one, or the highest of all.
+fn next_due(due: u64, last: usize) -> usize {
+    let below = due & ((1 << last) - 1);
+    let sweep = if below == 0 { due } else { below };
+    sweep.ilog2() as usize
+}
+
+/// Works out the row and the rings of a routine from its pairs; the callers due for that, as bits.
+fn work_out(bodies: &mut [Body], routine: usize) -> u64 {
+    let body = &mut bodies[routine];
+    let (row, rings) = close(body);
+    body.rings = rings;
+    if row == body.row {
+        return 0;
+    }
+    body.row = row;
+    let callers = body.callers;
+    for caller in ones(callers) {
+        bodies[caller].changed |= 1 << routine;
+    }
+    callers
+}
+
+/// Takes what is new in the rows that have changed into the pairs of a routine that calls them; says
+/// whether that added any.
+fn take_calls(section: &[u8], bodies: &mut [Body], calls: &mut [Call], routine: usize) -> bool {
+    let body = &mut bodies[routine];
+    let changed = std::mem::take(&mut body.changed);
+    if changed == 0 {
+        return false;
+    }
+    let calls = &mut calls[body.first_call as usize..body.after_calls as usize];
+    let mut grown = false;
+    for call in calls {
+        if changed >> call.routine & 1 == 1 {
+            let Body {
+                parameters, row, ..
+            } = bodies[call.routine as usize];
+            let names = &section[call.names as usize..][..parameters as usize];
+            let new = row.without(std::mem::replace(&mut call.taken, row));
+            grown |= take_row(&mut bodies[routine], call, names, new);
+        }
+    }
+    grown
+}
+
+/// Takes the pairs of a called row; says whether that added any.
+fn take_row(body: &mut Body, call: &Call, names: &[u8], row: Row) -> bool {
+    // What the names 0 to 7 of the called routine stand for.
+    let mut renamed = [NOTHING; ROW_SIDE];
+    renamed[0] = call.holder;
+    renamed[1..=names.len()].copy_from_slice(names);
+    take_pairs(body, call.thread as usize, &renamed, row.own)
+        | take_pairs(body, UNKNOWN, &renamed, row.unknown)
+        | take_pairs(body, SEVERAL, &renamed, row.several)
+}
+
+/// Takes the pairs of one label; says whether that added any.
+fn take_pairs(body: &mut Body, label: usize, renamed: &[u8; ROW_SIDE], pairs: u64) -> bool {
+    let mut left = pairs;
+    let mut grown = false;
+    while left != 0 {
+        let held = left.trailing_zeros() as usize / ROW_SIDE;
+        let mut wanted = left >> (ROW_SIDE * held) & 0xFF;
+        left &= !(0xFF << (ROW_SIDE * held));
+        if renamed[held] == NOTHING {
+            continue;
+        }
+        let mut names = 0;
+        while wanted != 0 {
+            names |= 1 << renamed[wanted.trailing_zeros() as usize];
+            wanted &= wanted - 1;
+        }
+        grown |= body.record(label, renamed[held] as usize, names);
+    }
+    grown
+}
+
+/// The row and the rings that follow from the recorded pairs of a body.
+fn close(body: &Body) -> (Row, u16) {
+    match (body.names as usize).div_ceil(LANES) {
+        1 => close_words::<1>(body),
+        2 => close_words::<2>(body),
+        3 => close_words::<3>(body),
+        _ => close_words::<WORDS>(body),
+    }
+}
+
+/// `close`, for a body whose names fit in W words.
+fn close_words<const W: usize>(body: &Body) -> (Row, u16) {
+    let used = u64::from(body.used);
+    let mut row = Row::default();
+    let mut rings = 0;
+    if may_mix(used) {
+        let several = several::<W>(body, used);
+        rings = diagonal(&several);
+        row.several = between_parameters(&several, body.parameters);
+    }
+    // A row without parameters has no pair with two different ends.
+    if body.parameters == 0 {
+        return (row, rings);
+    }
+    let mut unknown = plane::<W>(body, UNKNOWN);
+    for label in ones(used & ((1 << UNKNOWN) - 1)) {
+        let mut plane = plane::<W>(body, label);
+        close_walks(&mut plane, body.firsts[label] & body.seconds[label]);
+        if label == OWN {
+            row.own = between_parameters(&plane, body.parameters);
+        } else {
+            add(&mut unknown, &plane);
+        }
+    }
+    row.unknown = between_parameters(&unknown, body.parameters);
+    (row, rings)
+}
+
+/// Whether pairs of these labels can give a pair labelled several.
+fn may_mix(used: u64) -> bool {
+    used >> UNKNOWN != 0 || used & used.wrapping_sub(1) != 0
+}
+
+/// The recorded pairs of one label.
+#[inline(always)]
+fn plane<const W: usize>(body: &Body, label: usize) -> Matrix<W> {
+    std::array::from_fn(|word| body.planes[label][word])
+}
+
+/// The pairs labelled several: R* M R*, where R has all pairs and M those labelled several and those
+/// that follow from two with labels that give several.
+#[inline(always)]
+fn several<const W: usize>(body: &Body, used: u64) -> Matrix<W> {
+    // The pairs with one label or more, and those with two or more; several aside.
+    let (mut once, mut twice) = ([0; W], [0; W]);
+    let (mut firsts, mut seconds) = (0, 0);
+    let plain = used & ((1 << SEVERAL) - 1);
+    for label in ones(plain) {
+        let plane = plane::<W>(body, label);
+        for word in 0..W {
+            twice[word] |= once[word] & plane[word];
+            once[word] |= plane[word];
+        }
+        firsts |= body.firsts[label];
+        seconds |= body.seconds[label];
+    }
+    let mut mixed = plane::<W>(body, SEVERAL);
+    let mut all = once;
+    add(&mut all, &mixed);
+    for label in ones(plain) {
+        let plane = plane::<W>(body, label);
+        // The pairs with a label that gives several after this one: any other, and unknown itself.
+        let mut after = once;
+        if label != UNKNOWN {
+            for word in 0..W {
+                after[word] &= !plane[word] | twice[word];
+            }
+        }
+        add_product(&mut mixed, &plane, &after, body.seconds[label] & firsts);
+    }
+    if mixed == [0; W] {
+        return mixed;
+    }
+    firsts |= body.firsts[SEVERAL];
+    seconds |= body.seconds[SEVERAL];
+    close_walks(&mut all, firsts & seconds);
+    let mut later = mixed;
+    add_product(&mut later, &mixed, &all, firsts & seconds);
+    let mut both = later;
+    add_product(&mut both, &all, &later, firsts & seconds);
+    both
+}
+
+/// Adds one matrix to another.
+#[inline(always)]
+fn add<const W: usize>(sum: &mut Matrix<W>, more: &Matrix<W>) {
+    for word in 0..W {
+        sum[word] |= more[word];
+    }
+}
+
+/// Adds to `sum` what `first` and then `second` relate. `middles` has the names, as bits, at which a
+/// pair of `first` can end and one of `second` begin.
+#[inline(always)]
+fn add_product<const W: usize>(
+    sum: &mut Matrix<W>,
+    first: &Matrix<W>,
+    second: &Matrix<W>,
+    middles: u16,
+) {
+    for middle in ones(middles.into()) {
+        add_where(sum, first, middle, row_of(second, middle));
+    }
+}
+
+/// Adds all walks of two or more steps, by one pass of pivots: the names at which a step can end and
+/// another begin.
+#[inline(always)]
+fn close_walks<const W: usize>(steps: &mut Matrix<W>, pivots: u16) {
+    for pivot in ones(pivots.into()) {
+        let before = *steps;
+        add_where(steps, &before, pivot, row_of(&before, pivot));
+    }
+}
+
+/// One row of a matrix.
+#[inline(always)]
+fn row_of<const W: usize>(matrix: &Matrix<W>, name: usize) -> u64 {
+    matrix[name / LANES] >> (NAMES * (name % LANES)) & 0xFFFF
+}
+
+/// Adds the names in `wanted` to each row of `sum` where `first` has the bit `middle`.
+#[inline(always)]
+fn add_where<const W: usize>(sum: &mut Matrix<W>, first: &Matrix<W>, middle: usize, wanted: u64) {
+    let everywhere = wanted * LOWEST;
+    for word in 0..W {
+        let here = first[word] >> middle & LOWEST;
+        sum[word] |= (here << NAMES).wrapping_sub(here) & everywhere;
+    }
+}
+
+/// The names that a matrix relates to themselves.
+#[inline(always)]
+fn diagonal<const W: usize>(matrix: &Matrix<W>) -> u16 {
+    let mut names = 0;
+    for name in 0..LANES * W {
+        names |= row_of(matrix, name) & 1 << name;
+    }
+    names as u16
+}
+
+/// The pairs with two different ends in 0 to k, in the form of a row.
+#[inline(always)]
+fn between_parameters<const W: usize>(matrix: &Matrix<W>, parameters: u8) -> u64 {
+    let mut pairs = 0;
+    for held in 0..ROW_SIDE.min(LANES * W) {
+        let wanted = row_of(matrix, held) & 0xFF & !(1 << held);
+        pairs |= wanted << (ROW_SIDE * held);
+    }
+    pairs & parameter_pairs(parameters)
+}
+
+/// All pairs of the names 0 to k, in the form of a row.
+fn parameter_pairs(parameters: u8) -> u64 {
+    let names = (2 << parameters) - 1;
+    let rows = u64::MAX >> (ROW_SIDE * (MAX_PARAMETERS - parameters) as usize);
+    (names * 0x0101_0101_0101_0101) & rows
+}
+
+/// Writes the 65 bytes of one routine.
+fn write_row(body: &Body, bytes: &mut [u8]) {
+    let Row {
+        own,
+        unknown,
+        several,
+    } = body.row;
+    let (cells, ring) = bytes.split_at_mut(RING_BYTE);
+    ring[0] = u8::from(body.rings != 0);
+    if own | unknown | several == 0 {
+        cells.fill(0);
+        return;
+    }
+    for (held, cells) in cells.chunks_exact_mut(ROW_SIDE).enumerate() {
+        let one = |pairs: u64| bytes_of_bits(pairs >> (ROW_SIDE * held) & 0xFF);
+        let sum = one(own) * u64::from(CELL_OWN)
+            + one(unknown) * u64::from(CELL_UNKNOWN)
+            + one(several) * u64::from(CELL_SEVERAL);
+        cells.copy_from_slice(&sum.to_le_bytes());
+    }
+}
+
+/// Eight bytes of 0 or 1 from eight bits, the lowest first.
+fn bytes_of_bits(bits: u64) -> u64 {
+    let apart = (bits * 0x0101_0101_0101_0101) & 0x8040_2010_0804_0201;
+    (apart + 0x7F7F_7F7F_7F7F_7F7F) >> 7 & 0x0101_0101_0101_0101
+}
+
+/// The number of the verdict: the lowest reached routine with a ring and its lowest ring name, or 0.
+fn verdict(bodies: &[Body]) -> u32 {
+    let mut ringed = 0u64;
+    for (routine, body) in bodies.iter().enumerate() {
+        ringed |= u64::from(body.rings != 0) << routine;
+    }
+    if ringed == 0 {
+        return 0;
+    }
+    let found = ringed & reached(bodies);
+    if found == 0 {
+        return 0;
+    }
+    let routine = found.trailing_zeros();
+    let name = bodies[routine as usize].rings.trailing_zeros();
+    RING_BASE + RING_ROUTINE * routine + RING_NAME * name
+}
+
+/// The routines that calls reach, as bits.
+fn reached(bodies: &[Body]) -> u64 {
+    let mut reached = 1u64;
+    let mut waiting = 1u64;
+    while waiting != 0 {
+        let routine = waiting.trailing_zeros() as usize;
+        waiting &= waiting - 1;
+        waiting |= bodies[routine].callees & !reached;
+        reached |= bodies[routine].callees;
+    }
+    reached
+}
