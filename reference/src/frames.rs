@@ -3,7 +3,7 @@
 //! A frame is the model buffer's length and the table's length, two bytes each,
 //! low byte first, and the table's bytes.
 
-use crate::cases::{limits, rules};
+use crate::cases::{limits, rules, worked};
 use crate::generate::{boundaries, of_kind, Kind, Rng};
 use crate::limits::{MAX_ROUTINES, ROW_BYTES};
 use crate::listing_with;
@@ -41,7 +41,7 @@ pub fn all() -> Vec<Frame> {
             table: case.table,
         });
     }
-    for case in rules() {
+    for case in worked().into_iter().chain(rules()) {
         frames.extend(with_each_buffer(&case.table));
     }
     for boundary in boundaries() {

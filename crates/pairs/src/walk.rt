@@ -83,8 +83,8 @@ fn entered(
     }
 }
 
-// The place past the item at p. The arrays have the holder (16 for nothing) and the thread (a label number) of each open
-// level: where the item opens one, its entries are written.
+// The place past the item at p. The arrays have the holder (a name or NOTHING) and the thread (a label number) of each
+// open level: where the item opens one, its entries are written.
 pub fn step(
     ks: &[u8],
     s: &[u8],
