@@ -1,10 +1,10 @@
 /* Vangpear: whether a handler table is accepted, and whether its threads can wait for each other's locks.
- * C11, usable from C++.
+ * C11, usable from C++. docs/FORMAT.md has the format of a table, the rules, and all the numbers below.
  *
  * Link with the archive that `rt staticlib analysis` writes, target/staticlib/libanalysis.a. The calls keep no state,
- * take no memory of their own, use less than 64 KiB of stack, write nothing but what is said here, and are proved to
- * end for every input. Two calls may run at the same time on different model buffers. What each refusal's number means
- * is in refusals.h. */
+ * take no memory of their own, write nothing but what is said here, and are proved to end for every input. They use
+ * less than 10 KiB of stack (9,876 bytes measured): have 16 KiB free. Two calls may run at the same time on different
+ * model buffers. What each refusal's number means is in refusals.h. */
 #ifndef VANGPEAR_H
 #define VANGPEAR_H
 
@@ -19,10 +19,23 @@ extern "C" {
 #define VANGPEAR_ROW 65u
 #define VANGPEAR_MODEL (64u * VANGPEAR_ROW)
 
+/* Row r of the model is the VANGPEAR_ROW bytes from VANGPEAR_ROW * r on: 64 cells and a last byte. Cell 8 * a + b, for
+ * a and b from 0 to 7, is the sum of the labels under which routine r has name a held while name b is wanted, and 0
+ * where there is none. Name 0 is the lock that the thread took last before the call and still holds, the others are
+ * the routine's parameters. The last byte is 1 where the pairs of the routine's body have a ring, and otherwise 0.
+ * These two give the index in the model buffer. */
+#define VANGPEAR_CELL(routine, a, b) (VANGPEAR_ROW * (routine) + 8u * (a) + (b))
+#define VANGPEAR_LAST(routine) (VANGPEAR_ROW * (routine) + 64u)
+
+/* The labels: the thread that runs the routine, one unnamed thread, two or more threads. */
+#define VANGPEAR_OWN 1u
+#define VANGPEAR_UNKNOWN 2u
+#define VANGPEAR_SEVERAL 4u
+
 /* What vangpear_check gives for an accepted table is VANGPEAR_ROUTINE * routines + items. */
 #define VANGPEAR_ROUTINE 65536u
 
-/* What vangpear_analyse gives for a ring is VANGPEAR_RING + 1024 * routine + 32 * name. */
+/* What vangpear_analyse gives for a ring is VANGPEAR_RING + 1024 * routine + 32 * name: these take it apart. */
 #define VANGPEAR_RING 65536u
 #define VANGPEAR_RING_ROUTINE(answer) (((answer) - VANGPEAR_RING) / 1024u)
 #define VANGPEAR_RING_NAME(answer) (((answer) - VANGPEAR_RING) % 1024u / 32u)

@@ -1,4 +1,4 @@
-//! Document 01's cases, and a table for each of its rules.
+//! The worked tables of docs/FORMAT.md, and a table for each of its rules.
 
 use crate::generate::assemble;
 use crate::limits::code::*;

@@ -26,7 +26,7 @@ pub fn groups() -> Vec<Group> {
     vec![
         group(
             "worked cases",
-            "document 01's worked tables, a to j",
+            "the worked tables of docs/FORMAT.md, a to j",
             worked().into_iter().map(|case| case.table).collect(),
         ),
         group(

@@ -1,4 +1,5 @@
-//! A second analyser of handler tables, written from document 01 alone.
+//! A second analyser of handler tables, written from document 01, the
+//! customer's paper, alone; docs/FORMAT.md is our page on the same format.
 //!
 //! It is kept plain, to be compared against, not to be fast:
 //! `table` reads and refuses, `model` works out pairs, rows and the verdict,

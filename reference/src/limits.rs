@@ -1,4 +1,4 @@
-//! Every number that document 01 fixes, in one place.
+//! Every number that docs/FORMAT.md fixes, in one place.
 
 /// Most routines in a table.
 pub const MAX_ROUTINES: usize = 64;

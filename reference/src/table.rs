@@ -1,4 +1,4 @@
-//! Reading a table, with refusals 1 to 14 in document 01's order.
+//! Reading a table, with refusals 1 to 14 in the order of docs/FORMAT.md.
 
 use crate::limits::{code, refusal, MAX_FORK, MAX_NEW, MAX_OPEN};
 use crate::limits::{MAX_PARAMETERS, MAX_ROUTINES, MAX_SECTION};

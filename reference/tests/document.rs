@@ -1,4 +1,4 @@
-//! Document 01's cases, refusals and rules, one test for each.
+//! The worked tables, refusals and rules of docs/FORMAT.md, one test for each.
 
 use reference::cases::{limits, rules, worked};
 use reference::generate::{assemble, random};

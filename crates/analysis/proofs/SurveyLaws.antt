@@ -5,11 +5,11 @@ use Prim.Native.Nat.{ℕ, suc, _+_, _-_, _≤_, _<_}
 use native.Mathlib.Numerals.{add-one}
 use native.Mathlib.Omega.{arith}
 use native.Mathlib.Decide.{ℕ-discrete}
-use lib.ListN.{length, getD, set, take, drop, length-set, replicate}
+use lib.ListN.{length, getD, set, take, drop, length-set}
 use lib.Seq.{getD-set-same, getD-set-other, getD-take, length-take-le}
 use Rattle.table.specs.Constants.{END}
 use Rattle.table.specs.Program.{Program, body}
-use Rattle.table.specs.Encoding.{encode, encodeBodies, counts}
+use Rattle.table.specs.Encoding.{encode, encodeBodies}
 use Rattle.rules.specs.Verdict.{Calls}
 use Rattle.grid.specs.Rows.{Has}
 use Rattle.pairs.specs.Fine.{Fine, IsBody}

@@ -1,15 +1,13 @@
 -- The sections of an accepted table hold its program, as code takes them.
-use mathlib.Core.Path.{_≡_, refl, sym, ap, _∙_}
-use mathlib.Core.List.{List, [], _∷_, _++_}
-use Prim.Native.Nat.{ℕ, suc, _+_, _-_, _*_, _≤_, _<_}
+use mathlib.Core.Path.{_≡_, sym, ap, _∙_}
+use mathlib.Core.List.{List, _++_}
+use Prim.Native.Nat.{ℕ, suc, _+_, _-_, _≤_}
 use native.Mathlib.Omega.{arith}
-use lib.ListN.{length, getD, take, drop, length-append}
+use lib.ListN.{length, take, drop, length-append}
 use lib.Seq.{take-at, take-all, drop-append-add}
-use Rattle.table.specs.Program.{Program, programItems}
+use Rattle.table.specs.Program.{Program}
 use Rattle.table.specs.Encoding.{encodeTable, encodeBodies, counts, twoBytes}
-use Rattle.table.specs.Check.{Outcome, refused, accepted, checkTable}
-use Rattle.table.specs.Answer.{checkedOf}
-use Rattle.table.specs.declared.Checked.the-variants.{Accepted, Refused}
+use Rattle.table.specs.Check.{accepted, checkTable}
 use Rattle.table.specs.laws.Sound.{sound, counts-length}
 use Rattle.table.specs.laws.Accepts.{Bytes}
 use Rattle.analysis.specs.laws.Bodies.{Holds}
@@ -58,13 +56,3 @@ module _ (table : List ℕ) (bytes : Bytes table) (n : ℕ) (P : Program) (e : c
     bytes-are = rw (is-table, en) (second-part P);
     limits = sound table P bytes e .1;
   }
-
--- an answer of the check tells the outcome
-pub accepted-of : (x : Outcome) (n i : ℕ) → Accepted n i ≡ checkedOf x → (P : Program) × (x ≡ accepted P)
-    × (n ≡ length P)
-accepted-of (accepted P) n i e = (P, refl, cc)
-accepted-of (refused y) n i e = let z : _≡_ {A = ℕ} 0 1 = cc in absurd (omega arith)
-
-pub refused-of : (x : Outcome) (y : ℕ) → Refused y ≡ checkedOf x → x ≡ refused y
-refused-of (accepted P) y e = let z : _≡_ {A = ℕ} 0 1 = cc in absurd (omega arith)
-refused-of (refused z) y e = cc

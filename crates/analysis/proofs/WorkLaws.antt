@@ -1,5 +1,6 @@
 -- What is worked out in a body: the walk records, and the closing composes.
 use mathlib.Core.Path.{_≡_, ap, _∙_}
+use mathlib.Core.Logic.{⊎-elim}
 use mathlib.Core.List.{List, [], _++_}
 use mathlib.Core.Option.{some}
 use Prim.Native.Nat.{ℕ, _+_, _*_, _≤_, _<_}
@@ -12,11 +13,13 @@ use Rattle.table.specs.Encoding.{encode}
 use Rattle.table.specs.laws.Formed.{well-formed}
 use Rattle.rules.specs.Label.{Label, own, several}
 use Rattle.rules.specs.laws.Closure.{Closed}
-use Rattle.grid.specs.Grid.{Pair, Closure, LowestRing}
+use Rattle.rules.specs.laws.Satisfies.{RecordedFrom}
+use Rattle.grid.specs.Grid.{Pair, Small, AllKept, Empty, Closure, LowestRing}
 use Rattle.grid.specs.laws.Masks.{has-zero}
 use Rattle.rows.specs.Model.{RowBits}
 use Rattle.rows.specs.laws.Fixpoint.{KeptFrom, closed-mono, recorded-calls}
 use Rattle.pairs.specs.Fine.{IsBody}
+use Rattle.pairs.specs.Gains.{Gains}
 use Rattle.pairs.specs.Contracts.{Records}
 use Rattle.analysis.specs.laws.Settle.{RowsOf, GridOf, Named}
 use Rattle.analysis.specs.laws.Bodies.{BodyReady, Works}
@@ -53,16 +56,27 @@ module _ (ks s : List ℕ) (at : ℕ) (rows : List ℕ) where
       let l = b .long in
       (is-body (b .program) ks s (o .holds) (b .routine) (o .listed) at (o .starts), omega arith)
 
-  pub works : (g c : List (List ℕ)) → Records ks s at rows g → Closure g c → Works ks s at rows c
-  works g c rec cl P r o = record { only = only; all = all }
+  -- what is recorded from an empty grid can be closed
+  pub can-close : (e g : List (List ℕ)) → BodyReady ks s at rows → Empty e → Records ks s at rows e g
+      → Small g × AllKept g
+  can-close e g b em rec =
+      let c = can-record b .0 in
+      let q = rec (c .0) (c .1) (c .2) (c .3) in
+      (q .small, q .kept (em .kept))
+
+  pub works : (e g c : List (List ℕ)) → Empty e → Records ks s at rows e g → Closure g c → Works ks s at rows c
+  works e g c em rec cl P r o = record { only = only; all = all }
     where
       bytes : drop at s ≡ encode END (body P r) ++ rest P ks s (o .holds) r (o .listed)
       bytes = ap (λ (v : ℕ). drop v s) (o .starts) ∙ bytes-here P ks s (o .holds) r (o .listed)
 
+      gains : Gains e (RecordedFrom (RowBits rows) (body P r) own (some 0)) g
+      gains = rec (body P r) _ (fine-here P ks s (o .holds) r (o .listed)) bytes
+
       -- the rows of the routines that the body calls are rows of the program
       to-rows : (a b : ℕ) (l : Label) → Pair g a b l → KeptFrom (RowsOf (length P) rows) (body P r) a b l
       to-rows a b l p =
-          let w = rec .only (body P r) _ (fine-here P ks s (o .holds) r (o .listed)) bytes a b l p in (
+          let w = ⊎-elim (λ q. absurd (em .none a b l q)) (λ q. q) (gains .only a b l p) in (
             recorded-calls (RowBits rows) (RowsOf (length P) rows) (body P r)
                 (λ q x y m k h. (body-calls P (well-formed P (o .holds .limits)) r q (o .listed) k, h)) own
                 (some 0) a b l (w .0),
@@ -71,7 +85,7 @@ module _ (ks s : List ℕ) (at : ℕ) (rows : List ℕ) where
 
       from-rows : (a b : ℕ) (l : Label) → KeptFrom (RowsOf (length P) rows) (body P r) a b l → Pair g a b l
       from-rows a b l w =
-          rec .all (body P r) _ (fine-here P ks s (o .holds) r (o .listed)) bytes a b l
+          gains .new a b l
           (recorded-calls (RowsOf (length P) rows) (RowBits rows) (body P r) (λ q x y m k h. h .1) own
           (some 0) a b l (w .0))
           (w .1)

@@ -16,7 +16,7 @@ fn worked_out(ks: &[u8], s: &[u8], at: usize, rows: &[u8]) -> Grid
     requires { ⌜ BodyReady (now ks) (now s) at (now rows) ⌝ }
     ensures { λ g. ⌜ Works (now (ks .entry)) (now (s .entry)) at (now (rows .entry)) g ⌝ }
 {
-    let g = pairs::recorded(ks, s, at, rows);
+    let g = pairs::recorded(grid::empty(), ks, s, at, rows);
     grid::close(g)
 }
 

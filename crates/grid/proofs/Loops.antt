@@ -6,7 +6,6 @@ use native.Mathlib.Omega.{arith}
 use native.Mathlib.Decide.{ℕ-discrete}
 use lib.ListN.{getD, set, length}
 use lib.Seq.{getD-set-same, getD-set-other}
-use denote.Array.{each}
 use borrow.Author.Needs.{set-long}
 use Rattle.grid.specs.Rows.{Rel, Edge, Same, Bits}
 use Rattle.grid.proofs.Shapes.{edge-row, cell-row}

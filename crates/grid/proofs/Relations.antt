@@ -4,7 +4,7 @@ use mathlib.Core.Logic.{_⊎_, inl, inr, ⊎-elim}
 use Prim.Native.Nat.{ℕ, _+_, _<_}
 use native.Mathlib.Omega.{arith}
 use native.Mathlib.Decide.{decLt}
-use Rattle.grid.specs.Rows.{Rel, Or, Then, Walk, one, Star, Same}
+use Rattle.grid.specs.Rows.{Rel, Or, Then, Walk, Star, Same}
 use Rattle.grid.specs.laws.Walks.{walk-map}
 
 -- a relation is the same as itself, and through another

@@ -15,7 +15,7 @@ use Rattle.rules.specs.Label.{Label, own}
 use Rattle.rules.specs.Number.{labelOf}
 use Rattle.rules.specs.Model.{Kept}
 use Rattle.rules.specs.laws.Satisfies.{Pairs, RecordedFrom}
-use Rattle.grid.specs.Grid.{Pair, Small, AllKept, Empty}
+use Rattle.grid.specs.Grid.{Pair, Small, AllKept}
 use Rattle.pairs.specs.Fine.{Fine, IsBody}
 use Rattle.pairs.specs.Walks.{Walk, Ready, heldBy, byteOf, argOf, holderOf, threadOf, startWalk, nextWalk}
 use Rattle.pairs.specs.Gains.{Gains, LockGives, CallGives, Low, namesAt, LockReady, CallReady}
@@ -34,31 +34,36 @@ low-names [] h i = omega arith
 low-names (x ∷ xs) h zero = h x (inl refl)
 low-names (x ∷ xs) h (suc i) = low-names xs (λ y p. h y (inr p)) i
 
--- the walk over the body c, followed by t, is at its place, and the grid has what was recorded before
-pub record Recorded (ks s rows : List ℕ) (c : Code) (t : List ℕ) (w : Walk) (g : List (List ℕ)) : Type 0 where
+-- the walk over the body c, followed by t, is at its place, and the grid has the pairs of f and those recorded before
+pub record Recorded (ks s rows : List ℕ) (c : Code) (t : List ℕ) (f : List (List ℕ)) (w : Walk) (g : List (List ℕ))
+    : Type 0 where
   pub levels : List Level
   pub left : Left ks s t w levels
-  pub met : (a b : ℕ) (l : Label) → Pair g a b l → RecordedFrom (RowBits rows) c own (some 0) a b l
+  pub met : (a b : ℕ) (l : Label) → Pair g a b l
+      → Pair f a b l ⊎ (RecordedFrom (RowBits rows) c own (some 0) a b l × Kept a b l)
   pub pending : (a b : ℕ) (l : Label) → InLeft (PairIn (RowBits rows) a b l) levels
       → RecordedFrom (RowBits rows) c own (some 0) a b l
   pub all : (a b : ℕ) (l : Label) → RecordedFrom (RowBits rows) c own (some 0) a b l → Kept a b l
       → Pair g a b l ⊎ InLeft (PairIn (RowBits rows) a b l) levels
 
--- the walk over each body that the bytes can be
-pub record Recording (ks s : List ℕ) (at : ℕ) (rows : List ℕ) (w : Walk) (g : List (List ℕ)) : Type 0 where
+-- the walk over each body that the bytes can be, from the grid f on
+pub record Recording (ks s : List ℕ) (at : ℕ) (rows : List ℕ) (f : List (List ℕ)) (w : Walk) (g : List (List ℕ))
+    : Type 0 where
   pub small : Small g
-  pub kept : AllKept g
-  pub each : (c : Code) (t : List ℕ) → Fine ks c → drop at s ≡ encode END c ++ t → Recorded ks s rows c t w g
+  pub kept : AllKept f → AllKept g
+  pub old : (a b : ℕ) (l : Label) → Pair f a b l → Pair g a b l
+  pub each : (c : Code) (t : List ℕ) → Fine ks c → drop at s ≡ encode END c ++ t → Recorded ks s rows c t f w g
 
-pub record-start : (ks s : List ℕ) (at : ℕ) (rows : List ℕ) (g : List (List ℕ)) → Empty g
-    → Recording ks s at rows (startWalk at) g
-record-start ks s at rows g z = record {
-  small = z .small;
-  kept = z .kept;
-  each = λ c t f e. record {
+pub record-start : (ks s : List ℕ) (at : ℕ) (rows : List ℕ) (f : List (List ℕ)) → Small f
+    → Recording ks s at rows f (startWalk at) f
+record-start ks s at rows f small = record {
+  small = small;
+  kept = λ z. z;
+  old = λ a b l p. p;
+  each = λ c t i e. record {
     levels = level c none own (some 0) ∷ [];
-    left = begins ks s t at c f e;
-    met = λ a b l p. absurd (z .none a b l p);
+    left = begins ks s t at c i e;
+    met = λ a b l p. inl p;
     pending = λ a b l p. ⊎-elim (λ y. y) (⊎-elim (λ y. absurd y) (λ y. absurd y)) p;
     all = λ a b l p k. inr (inl p);
   };
@@ -152,9 +157,9 @@ module _ (ks s t : List ℕ) (w : Walk) where
       (v .5) x
       (names-at-call _ _ _ _ _ _ _ p′) (y .thread) (y .holder) q)
 
-module _ {ks s : List ℕ} {at : ℕ} {rows : List ℕ} {w : Walk} {g : List (List ℕ)} (p : Recording ks s at rows w g)
-    (body : IsBody ks s at) where
-  abbrev here : Recorded ks s rows (body .0) (body .1) w g
+module _ {ks s : List ℕ} {at : ℕ} {rows : List ℕ} {f : List (List ℕ)} {w : Walk} {g : List (List ℕ)}
+    (p : Recording ks s at rows f w g) (body : IsBody ks s at) where
+  abbrev here : Recorded ks s rows (body .0) (body .1) f w g
   here = p .each (body .0) (body .1) (body .2) (body .3)
 
   pub record-there : w .at < length s
@@ -174,55 +179,62 @@ module _ {ks s : List ℕ} {at : ℕ} {rows : List ℕ} {w : Walk} {g : List (Li
   pub record-lock-ready : byteOf s w ≡ code LOCK → LockReady s (w .at) (threadOf w)
   record-lock-ready e = lock-ready ks s (body .1) w (here .levels) (here .left) e
 
-  pub record-call-ready : byteOf s w ≡ code CALL → 65 * length ks ≤ length rows → CallReady ks s rows (w .at) (threadOf w)
+  pub record-call-ready : byteOf s w ≡ code CALL → 65 * length ks ≤ length rows
+      → CallReady ks s rows (w .at) (threadOf w)
   record-call-ready e l = call-ready ks s (body .1) w rows (here .levels) (here .left) e l
 
   record-next : (r : List (List ℕ)) → Going s w
-      → ((t : List ℕ) (ls : List Level) → Left ks s t w ls → Gains g
-      (λ a b l. AtItem (PairAt (RowBits rows) a b l) ls) r)
-      → Recording ks s at rows (nextWalk ks s w) r
-  record-next r h f = record {
-    small = f (body .1) (here .levels) (here .left) .small;
-    kept = f (body .1) (here .levels) (here .left) .kept (p .kept);
-    each = λ c t i e.
-        let z = p .each c t i e in
-        let q = f t (z .levels) (z .left) in
-        record {
-          levels = past (z .levels);
-          left = step ks s t w (z .levels) (z .left) h;
-          met = λ a b l y. ⊎-elim (z .met a b l)
-              (λ x. z .pending a b l (pair-at (RowBits rows) a b l (z .levels) (x .0))) (q .only a b l y);
-          pending = λ a b l y. z .pending a b l (past-left _ _ (parts-pair (RowBits rows) a b l) (z .levels) y);
-          all = λ a b l y k.
-              ⊎-elim
-              (λ x. inl (q .old a b l x))
-              (λ x. ⊎-elim (λ v. inl (q .new a b l v k)) (λ v. inr v)
-              (left-past _ _ (pair-parts (RowBits rows) a b l) (z .levels) x))
-              (z .all a b l y k);
-        };
-  }
+      → ((t : List ℕ) (ls : List Level) → Left ks s t w ls
+      → Gains g (λ a b l. AtItem (PairAt (RowBits rows) a b l) ls) r)
+      → Recording ks s at rows f (nextWalk ks s w) r
+  record-next r h gains =
+      let q₀ = gains (body .1) (here .levels) (here .left) in
+      record {
+        small = q₀ .small;
+        kept = λ z. q₀ .kept (p .kept z);
+        old = λ a b l y. q₀ .old a b l (p .old a b l y);
+        each = λ c t i e.
+            let z = p .each c t i e in
+            let q = gains t (z .levels) (z .left) in
+            record {
+              levels = past (z .levels);
+              left = step ks s t w (z .levels) (z .left) h;
+              met = λ a b l y. ⊎-elim (z .met a b l)
+                  (λ x. inr (z .pending a b l (pair-at (RowBits rows) a b l (z .levels) (x .0)), x .1))
+                  (q .only a b l y);
+              pending = λ a b l y. z .pending a b l (past-left _ _ (parts-pair (RowBits rows) a b l) (z .levels) y);
+              all = λ a b l y k.
+                  ⊎-elim
+                  (λ x. inl (q .old a b l x))
+                  (λ x. ⊎-elim (λ v. inl (q .new a b l v k)) (λ v. inr v)
+                  (left-past _ _ (pair-parts (RowBits rows) a b l) (z .levels) x))
+                  (z .all a b l y k);
+            };
+      }
 
   pub record-lock : (r : List (List ℕ)) → Going s w → byteOf s w ≡ code LOCK → Gains g (LockPairs s w) r
-      → Recording ks s at rows (nextWalk ks s w) r
+      → Recording ks s at rows f (nextWalk ks s w) r
   record-lock r h e q = record-next r h (λ t ls y. lock-item ks s t w (RowBits rows) g r ls y e q)
 
   pub record-call : (r : List (List ℕ)) → Going s w → byteOf s w ≡ code CALL → Gains g (CallPairs ks s rows w) r
-      → Recording ks s at rows (nextWalk ks s w) r
+      → Recording ks s at rows f (nextWalk ks s w) r
   record-call r h e q = record-next r h (λ t ls y. call-item ks s t w rows g r ls y e q)
 
-  pub record-other : Going s w → (byteOf s w ≡ code LOCK → ⊥) → (byteOf s w ≡ code CALL → ⊥) → Recording ks s at rows
-      (nextWalk ks s w) g
+  pub record-other : Going s w → (byteOf s w ≡ code LOCK → ⊥) → (byteOf s w ≡ code CALL → ⊥)
+      → Recording ks s at rows f (nextWalk ks s w) g
   record-other h n m =
       record-next g h (λ t ls y. gains-none g _ (p .small) (λ a b l. quiet ks s t w (RowBits rows) a b l ls y n m))
 
-  pub record-end : byteOf s w ≡ code END → w .top ≡ 0 → Records ks s at rows g
-  record-end e n = record {
-    small = p .small;
-    kept = p .kept;
-    only = λ c t i h a b l y. (p .each c t i h .met a b l y, p .kept a b l y);
-    all = λ c t i h a b l y k.
-        let z = p .each c t i h in
-        ⊎-elim (λ x. x)
-        (λ x. absurd (none-left ks s t w (z .levels) (z .left) e n (PairIn (RowBits rows) a b l) (λ θ o v. v) x))
-        (z .all a b l y k);
-  }
+  pub record-end : byteOf s w ≡ code END → w .top ≡ 0 → Records ks s at rows f g
+  record-end e n c t i h =
+      let z = p .each c t i h in
+      record {
+        small = p .small;
+        kept = p .kept;
+        only = z .met;
+        old = p .old;
+        new = λ a b l y k.
+            ⊎-elim (λ x. x)
+            (λ x. absurd (none-left ks s t w (z .levels) (z .left) e n (PairIn (RowBits rows) a b l) (λ θ o v. v) x))
+            (z .all a b l y k);
+      }

@@ -8,12 +8,11 @@ use Rattle.table.specs.Constants.{END}
 use Rattle.table.specs.Program.{Code}
 use Rattle.table.specs.Encoding.{encode}
 use Rattle.rules.specs.Verdict.{Calls}
-use Rattle.rules.specs.Label.{Label, own}
-use Rattle.rules.specs.Model.{Kept}
+use Rattle.rules.specs.Label.{own}
 use Rattle.rules.specs.laws.Satisfies.{RecordedFrom}
 use Rattle.grid.specs.Rows.{Has}
-use Rattle.grid.specs.Grid.{Pair, Small, AllKept}
 use Rattle.pairs.specs.Fine.{Fine}
+use Rattle.pairs.specs.Gains.{Gains}
 use Rattle.rows.specs.Model.{RowBits}
 
 -- the body at the offset ends before `next`, and `calls` has the bits of the routines that its calls name
@@ -23,11 +22,8 @@ pub record Scans (ks s : List ℕ) (at next calls : ℕ) : Type 0 where
   pub all : (c : Code) (t : List ℕ) → Fine ks c → drop at s ≡ encode END c ++ t → (q : ℕ) → Calls c q → Has calls q
   pub listed : (q : ℕ) → Has calls q → q < length ks
 
--- the grid g has exactly the kept ones of the pairs that the body at the offset records, where `rows` has the rows
-pub record Records (ks s : List ℕ) (at : ℕ) (rows : List ℕ) (g : List (List ℕ)) : Type 0 where
-  pub small : Small g
-  pub kept : AllKept g
-  pub only : (c : Code) (t : List ℕ) → Fine ks c → drop at s ≡ encode END c ++ t
-      → (a b : ℕ) (l : Label) → Pair g a b l → RecordedFrom (RowBits rows) c own (some 0) a b l × Kept a b l
-  pub all : (c : Code) (t : List ℕ) → Fine ks c → drop at s ≡ encode END c ++ t
-      → (a b : ℕ) (l : Label) → RecordedFrom (RowBits rows) c own (some 0) a b l → Kept a b l → Pair g a b l
+-- r is g with the kept ones of the pairs that the body at the offset records, where `rows` has the rows
+abbrev pub Records : List ℕ → List ℕ → ℕ → List ℕ → List (List ℕ) → List (List ℕ) → Type 0
+Records ks s at rows g r =
+    (c : Code) (t : List ℕ) → Fine ks c → drop at s ≡ encode END c ++ t
+    → Gains g (RecordedFrom (RowBits rows) c own (some 0)) r

@@ -5,6 +5,7 @@ ghost use Prim.Native.Nat.{_*_, _<_, _≤_};
 ghost use lib.ListN.{length};
 ghost use Rattle.table.specs.Constants.{most-routines, row-bytes};
 ghost use Rattle.grid.specs.Rows.{Has, Bits};
+ghost use Rattle.grid.specs.Grid.{Small};
 ghost use Rattle.pairs.specs.Fine.{IsBody};
 ghost use Rattle.pairs.specs.Contracts.{Scans, Records};
 
@@ -14,7 +15,6 @@ mod walk;
 use calls::called;
 use calls::locked;
 use grid::Grid;
-use grid::empty;
 use table::limits::CALL;
 use table::limits::LOCK;
 use walk::LEVELS;
@@ -62,10 +62,10 @@ pub fn scan(ks: &[u8], s: &[u8], at: usize) -> Scanned
     }
 }
 
-// The pairs that the body at `at` records, where `rows` has the rows of the routines.
-pub fn recorded(ks: &[u8], s: &[u8], at: usize, rows: &[u8]) -> Grid
-    requires { ⌜ IsBody (now ks) (now s) at × (row-bytes * length (now ks) ≤ length (now rows)) ⌝ }
-    ensures { λ r. ⌜ Records (now (ks .entry)) (now (s .entry)) at (now (rows .entry)) r ⌝ }
+// The grid g with the pairs that the body at `at` records, where `rows` has the rows of the routines.
+pub fn recorded(mut g: Grid, ks: &[u8], s: &[u8], at: usize, rows: &[u8]) -> Grid
+    requires { ⌜ IsBody (now ks) (now s) at × (row-bytes * length (now ks) ≤ length (now rows)) × Small g ⌝ }
+    ensures { λ r. ⌜ Records (now (ks .entry)) (now (s .entry)) at (now (rows .entry)) g r ⌝ }
 {
     let mut holders = [0u8; LEVELS];
     let mut threads = [0u8; LEVELS];
@@ -74,7 +74,6 @@ pub fn recorded(ks: &[u8], s: &[u8], at: usize, rows: &[u8]) -> Grid
         forks: 0,
         top: 0,
     };
-    let mut g = empty();
     loop {
         let i = p.at;
         let n = p.top;

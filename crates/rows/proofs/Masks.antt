@@ -2,13 +2,13 @@
 use mathlib.Core.Path.{_≡_, refl, sym, ap, _∙_}
 use mathlib.Core.Logic.{_⊎_, inl, inr, ⊎-elim}
 use mathlib.Core.Bool.{Bool, true, false, cond}
-use Prim.Native.Nat.{ℕ, zero, suc, _+_, _*_, _/_, _%_, _^_, _<_, _≤_, max}
+use Prim.Native.Nat.{ℕ, zero, suc, _+_, _*_, _/_, _%_, _^_, _<_, _≤_}
 use native.Mathlib.Omega.{arith}
-use native.Mathlib.Decide.{decLt, ℕ-discrete}
-use native.Mathlib.Nat.{div-eq-of-lt, div-lt-iff-lt-mul, one-mul, zero-mul, zero-div, eq-or-lt-of-le}
+use native.Mathlib.Decide.{ℕ-discrete}
+use native.Mathlib.Nat.{div-lt-iff-lt-mul, one-mul, zero-mul, eq-or-lt-of-le}
 use lib.Dec.{eqb, leb}
-use lib.Bits.{bitOr, or-step, or-shr, or-add-and, and-le-r}
-use lib.Pow.{pow-pos, pow-mono, shr-shr, shr-le, mod-pow-add}
+use lib.Bits.{bitOr}
+use lib.Pow.{pow-pos, shr-shr, shr-le, mod-pow-add}
 use borrow.Author.Tests.{eqb-true, eqb-false, leb-true, leb-false}
 use Rattle.rules.specs.Label.{Label, own, forked, unknown, several, cut}
 use Rattle.rules.specs.Number.{labelOf}

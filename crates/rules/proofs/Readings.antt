@@ -1,4 +1,4 @@
--- How the definitions read where document 01's worked cases do not show it, a program for each reading.
+-- How the definitions read where the worked tables (docs/FORMAT.md) do not show it, a program for each reading.
 use mathlib.Core.Path.{_≡_, refl}
 use mathlib.Core.Logic.{inl, inr}
 use mathlib.Core.Bool.{false, not, _&&_}

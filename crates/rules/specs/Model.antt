@@ -1,4 +1,4 @@
--- Pairs, rows and rings: the least set that document 01's rules give, a rule a line.
+-- Pairs, rows and rings: the least set that the rules give, a rule a line (docs/FORMAT.md has them in words).
 use mathlib.Core.Path.{_≡_}
 use mathlib.Core.Logic.{_≢_, _⊎_}
 use mathlib.Core.List.{List}

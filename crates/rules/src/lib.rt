@@ -1,15 +1,9 @@
-// Labels as numbers, and how they combine.
+// Labels as numbers, and how they combine: 0 is the running thread, 1 to 8 are the forks, 9 is one unnamed thread.
 ghost use mathlib.Core.Path.{_≡_};
 ghost use Prim.Native.Nat.{_<_};
 ghost use Rattle.rules.specs.Label as label;
 ghost use Rattle.rules.specs.Number.{number, labelOf};
 
-// the running thread; forks 1 to 8 are the numbers 1 to 8
-pub const OWN: usize = 0;
-
-pub const FORKS: usize = 8;
-// one unnamed thread
-pub const UNKNOWN: usize = 9;
 // two or more threads
 pub const SEVERAL: usize = 10;
 // how many labels there are

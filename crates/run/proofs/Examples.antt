@@ -247,3 +247,59 @@ clear-g = is-clear table-g tt
 -- so table g is safe in every run
 safe-g : (turns : List Turn) → Safe (run table-g (start table-g) turns)
 safe-g = clear-is-safe table-g formed-g clear-g
+
+-- A CALL of routine 2 and a CHOICE, inside a LOCK block: the callee and the alternative hold its lock, and after the
+-- callee's END the names are the caller's again.
+abbrev calling : Program
+calling =
+    routine 0 (new 1 (new 2 (lock 2 (call 2 (2 ∷ 1 ∷ []) (choice end end end)) end)))
+    ∷ routine 0 (new 1 end)
+    ∷ routine 2 (lock 2 end end)
+    ∷ []
+
+in-callee :
+    view calling (go 0 ∷ go 0 ∷ go 0 ∷ go 0 ∷ go 0 ∷ [])
+    ≡ record { threads = here end (1 ∷ 0 ∷ 0 ∷ []) (0 ∷ 1 ∷ []) 3 ∷ []; made = 2 }
+unfolding step bind taken? elsewhere? some? in? ℕ-discrete
+in-callee = refl
+
+in-alternative :
+    view calling (go 0 ∷ go 0 ∷ go 0 ∷ go 0 ∷ go 0 ∷ go 0 ∷ go 0 ∷ go 0 ∷ [])
+    ≡ record { threads = here end (0 ∷ 1 ∷ 0 ∷ []) (1 ∷ []) 2 ∷ []; made = 2 }
+unfolding step bind taken? elsewhere? some? in? ℕ-discrete
+in-alternative = refl
+
+-- a thread that has ended leaves the state as it is
+ended-stays-ended :
+    view making (go 0 ∷ go 0 ∷ go 0 ∷ go 0 ∷ go 0 ∷ go 0 ∷ go 0 ∷ go 0 ∷ [])
+    ≡ record { threads = over ∷ []; made = 2 }
+unfolding step bind taken? elsewhere? some? in? ℕ-discrete
+ended-stays-ended = refl
+
+-- Three threads in a circle: each holds one of the locks 0, 1 and 2 and wants the next.
+abbrev three : Program
+three =
+    routine 0 (new 1 (new 2 (new 3
+    (fork 1 (lock 1 (lock 2 end end) end)
+    (fork 2 (lock 2 (lock 3 end end) end)
+    (lock 3 (lock 1 end end) end))))))
+    ∷ []
+
+turns-three : List Turn
+turns-three = go 0 ∷ go 0 ∷ go 0 ∷ go 0 ∷ go 0 ∷ go 0 ∷ go 1 ∷ go 2 ∷ []
+
+circle-three : Circle (run three (start three) turns-three)
+unfolding turns-three step bind taken? elsewhere? some? in? ℕ-discrete
+circle-three = record {
+  one = 0;
+  two = 1;
+  more = 2 ∷ [];
+  different = (
+    (λ h. elim h [ inl e ↦ omega arith | inr k ↦ elim k [ inl e ↦ omega arith | inr f ↦ f ] ]),
+    ((λ h. elim h [ inl e ↦ omega arith | inr f ↦ f ]), ((λ f. f), tt)),
+  );
+  waits = (
+    (0, wants refl, (λ e. omega arith), inl refl),
+    ((1, wants refl, (λ e. omega arith), inl refl), (2, wants refl, (λ e. omega arith), inl refl)),
+  );
+}

@@ -10,5 +10,6 @@ pub mod Turns
 pub mod Chain
 pub mod Tree
 pub mod Circle
+pub mod Closed
 pub mod Progress
 pub mod Safety

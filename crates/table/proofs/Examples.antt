@@ -2,11 +2,13 @@
 -- compete, where the earlier one must win.
 use mathlib.Core.Path.{_≡_, refl}
 use mathlib.Core.List.{List, [], _∷_, _++_, map}
-use Prim.Native.Nat.{ℕ, zero, suc}
+use Prim.Native.Nat.{ℕ, zero, suc, _-_, _/_}
 use lib.ListN.{length, replicate}
 use Rattle.table.specs.Program.{Code, end, new, lock, fork, choice, call, Program, programItems}
 use Rattle.table.specs.Encoding.{twoBytes, encodeTable}
 use Rattle.table.specs.Check.{refused, accepted, checkTable, blockBy, block}
+use Rattle.table.specs.Answer.{checkedOf}
+use Rattle.table.specs.declared.Checked.the-variants.{Accepted}
 
 -- a table of one routine, from its body
 abbrev one : List ℕ → List ℕ
@@ -82,6 +84,24 @@ scope-ends : checkTable (one (1 ∷ 2 ∷ 1 ∷ 1 ∷ 2 ∷ 2 ∷ 0 ∷ 0 ∷ 1 
     ≡ accepted (single (new 1 (lock 1 (new 2 (lock 2 end end)) (new 3 (lock 3 end (lock 1 end end))))))
 unfolding block blockBy
 scope-ends = refl
+
+-- what `check` answers to table g
+answers-g : checkedOf (checkTable bytes-g) ≡ Accepted 2 19
+unfolding block blockBy
+answers-g = refl
+
+-- a body of n bytes, n being even: a NEW, CALLs of routine 0 and an END
+abbrev calling : ℕ → List ℕ
+calling n = 1 ∷ (repeated (n / 2 - 1) (6 ∷ 0 ∷ []) ++ (0 ∷ []))
+
+-- 4,096 body bytes are accepted, and 4,097 are not
+full : checkedOf (checkTable (one (calling 4096))) ≡ Accepted 1 2049
+unfolding block blockBy
+full = refl
+
+above-full : checkTable (one (1 ∷ calling 4096)) ≡ refused 5
+unfolding block blockBy
+above-full = refl
 
 -- a table, and the refusal that it gets
 pub record Case : Type 0 where

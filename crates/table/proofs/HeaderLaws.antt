@@ -1,25 +1,23 @@
 -- Laws of the parameter counts, of the bodies in order and of the header: what the functions of `lib.rt` go by.
-use mathlib.Core.Path.{_≡_, refl, sym, ap, subst, _∙_}
-use mathlib.Core.Bool.{Bool, true, false, cond, not, _&&_, _||_}
-use mathlib.Core.List.{List, [], _∷_, _++_}
-use Prim.Native.Nat.{ℕ, zero, suc, _+_, _-_, _*_, _%_, _^_, _≤_, _<_}
+use mathlib.Core.Path.{_≡_, refl, sym, ap, _∙_}
+use mathlib.Core.Bool.{true, false, cond, not, _||_}
+use mathlib.Core.List.{List, [], _∷_}
+use Prim.Native.Nat.{ℕ, suc, _+_, _-_, _*_, _%_, _^_, _≤_, _<_}
 use native.Mathlib.Numerals.{add-one}
 use native.Mathlib.Omega.{arith}
-use lib.Dec.{leb, eqb, ltb}
+use lib.Dec.{eqb, ltb}
 use lib.ListN.{length, getD, take, drop, drop-of-length-le, length-drop}
 use lib.Seq.{drop-cons, drop-drop, getD-take, getD-drop, take-all}
-use borrow.Author.Tests.{lt-leb, le-leb, eq-eqb, ne-eqb, leb-true, lt-ltb, le-ltb}
+use borrow.Author.Tests.{lt-leb, le-leb, eq-eqb, ne-eqb, lt-ltb, le-ltb}
 use Rattle.table.specs.Constants.{most-routines, most-params, most-bytes, most-open}
-use Rattle.table.specs.Program.{Code, Routine, Program, names, items, programItems}
+use Rattle.table.specs.Program.{Code, Routine, items}
 use Rattle.table.specs.Check.{Place, Block, ok, bad, block, atHead, Outcome, refused, accepted, withRoutine}
 use Rattle.table.specs.Check.{bodyThen, bodies, small?, sections, checkTable}
-use Rattle.table.specs.laws.ScopeMask.{bits, bits-names, grows, double, shift-one}
+use Rattle.table.specs.laws.ScopeMask.{bits, bits-names, grows, shift-one}
 use Rattle.table.specs.Answer.{checkedOf}
-use Rattle.table.specs.laws.Sound.{small-each}
 use Rattle.table.specs.laws.Readers.{placeOf, countsPast, readOf, blockAnswer, fresh, bodyAnswer}
 use Rattle.table.specs.laws.Readers.{Ready, HasCounts, checkedFrom}
 use Rattle.table.specs.declared.bodies.Counts.{Counts}
-use Rattle.table.specs.declared.bodies.BlockRead.{BlockRead}
 use Rattle.table.specs.declared.bodies.BlockRead.the-variants.{Read, Bad}
 use Rattle.table.specs.declared.Checked.{Checked}
 use Rattle.table.specs.declared.Checked.the-variants.{Accepted, Refused}

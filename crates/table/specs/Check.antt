@@ -1,4 +1,4 @@
--- The check of a table: the program that it holds, or the refusal that comes first in document 01's order.
+-- The check of a table: the program that it holds, or the refusal that comes first in the order of docs/FORMAT.md.
 use mathlib.Core.Bool.{Bool, true, false, cond, not, _&&_, _||_}
 use mathlib.Core.List.{List, [], _∷_}
 use mathlib.Core.Option.{Option, none, some}

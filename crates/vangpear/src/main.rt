@@ -1,4 +1,6 @@
 // Judges the handler table on standard input and writes its listing. Everything that matters is in the libraries.
+ghost use Rattle.io.specs.Counts.{Counts};
+use libc::STDERR_FILENO;
 use libc::STDIN_FILENO;
 use libc::STDOUT_FILENO;
 use listing::LONGEST;
@@ -13,11 +15,54 @@ const READ_LIMIT: usize = 3 + MOST_ROUTINES + MOST_BYTES + 1;
 // The rows of as many routines as a table can have.
 const MODEL_BYTES: usize = ROW_BYTES * MOST_ROUTINES;
 
-fn main() {
-    let mut table = [0u8; READ_LIMIT];
+// What standard input gave: how many bytes were read, and whether a read failed.
+struct Input {
+    size: usize,
+    failed: bool,
+}
+
+// Reads standard input until the buffer is full, the input ends or a read fails.
+fn read_input(buf: &mut [u8]) -> Input
+    ensures { λ r. ⌜ Counts (r .size) (now (buf .exit)) ⌝ }
+{
+    let mut done: usize = 0;
+    while done < buf.len() {
+        let got = libc::read(STDIN_FILENO, &mut buf[done..]);
+        let more = io::count(got, &buf[done..]);
+        if more == 0 {
+            return Input {
+                size: done,
+                failed: got < 0,
+            };
+        }
+        done += more;
+    }
+    Input {
+        size: done,
+        failed: false,
+    }
+}
+
+// Writes the listing of a table, or says that there is no writing it.
+fn judge(table: &[u8]) {
     let mut model = [0u8; MODEL_BYTES];
     let mut text = [0u8; LONGEST];
-    let n = io::read_full(STDIN_FILENO, &mut table);
-    let size = listing::list(&table[..n], &mut model, &mut text);
-    io::write_all(STDOUT_FILENO, &text[..size]);
+    let size = listing::list(table, &mut model, &mut text);
+    if !io::write_all(STDOUT_FILENO, &text[..size]) {
+        io::write_all(
+            STDERR_FILENO,
+            b"vangpear: standard output cannot be written\n",
+        );
+    }
+}
+
+fn main() {
+    let mut table = [0u8; READ_LIMIT];
+    let input = read_input(&mut table);
+    if input.failed {
+        io::write_all(STDERR_FILENO, b"vangpear: standard input cannot be read\n");
+        return;
+    }
+    let n = input.size;
+    judge(&table[..n]);
 }

@@ -1,4 +1,4 @@
--- Document 01's worked tables, from their bytes: each with its verdict and with the rows of its model.
+-- The worked tables of docs/FORMAT.md, from their bytes: each with its verdict and with the rows of its model.
 use mathlib.Core.Path.{_≡_}
 use mathlib.Core.List.{List, [], _∷_}
 use Prim.Native.Nat.{ℕ, _+_, _*_}
@@ -128,7 +128,7 @@ pair r a b v = record { routine = r; a = a; b = b; byte = v }
 abbrev gets : List ℕ → Verdict → List CellByte → List ℕ → Case
 gets t v cs rs = record { table = t; verdict = v; cells = cs; rings = rs }
 
--- The worked tables, in order. Document 01 gives the rows of a and g, and row 1 of h; the rest is what the rules give.
+-- The worked tables, in order. The rows of a and g and row 1 of h are in docs/FORMAT.md; the rest the rules give.
 -- Routine 0 has no parameters, so that its cells are all 0.
 abbrev pub cases : List Case
 cases = gets table-a Clear [] []

@@ -1,3 +1,4 @@
 -- What is proved of the worked tables.
 pub mod Proved
 pub mod Answered
+pub mod Promised

@@ -1,10 +1,10 @@
 -- `analyse` meets its contract, by the cases of the check and of the buffer.
-use mathlib.Core.Path.{_≡_, refl, sym, _∙_}
+use mathlib.Core.Path.{sym, _∙_}
 use native.Mathlib.Omega.{arith}
 use Rattle.table.specs.Check.{checkTable}
-use Rattle.table.specs.laws.Accepts.{accepted-few}
+use Rattle.table.specs.laws.Accepts.{accepted-few, accepted-of, refused-of}
 use Rattle.table.specs.laws.Refusals.{refusals}
-use Rattle.analysis.proofs.TableLaws.{accepted-of, refused-of, sections-there, sections-hold}
+use Rattle.analysis.proofs.TableLaws.{sections-there, sections-hold}
 use Rattle.analysis.proofs.AnalyseLaws.{refused-by-check, refused-for-buffer, judged-as}
 use borrow.Author.Needs.{needs}
 use Rattle.analysis.proofs.analyse.Statement.{statement}

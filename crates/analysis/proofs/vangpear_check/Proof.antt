@@ -1,5 +1,5 @@
 -- `vangpear_check` meets its contract: the numbers of the answer are small enough for 32 bits.
-use mathlib.Core.Path.{_≡_, sym, ap, _∙_}
+use mathlib.Core.Path.{sym, ap, _∙_}
 use native.Mathlib.Omega.{arith}
 use Rattle.table.specs.Answer.{checkNumber}
 use Rattle.analysis.proofs.NumberLaws.{accepted-small, refused-small}

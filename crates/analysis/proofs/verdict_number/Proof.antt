@@ -1,5 +1,5 @@
 -- `verdict_number` meets its contract: a ring's numbers are small.
-use mathlib.Core.Path.{_≡_, sym, ap}
+use mathlib.Core.Path.{sym, ap}
 use native.Mathlib.Omega.{arith}
 use Rattle.analysis.specs.Answer.{verdictNumber}
 use Rattle.analysis.proofs.AnalyseLaws.{short-ring}

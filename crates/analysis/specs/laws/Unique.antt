@@ -1,5 +1,6 @@
--- The contract of the analysis leaves nothing free: two answers to one table, and the two buffers left, are equal.
-use mathlib.Core.Path.{_≡_, refl, sym, _∙_}
+-- The contract of the analysis leaves nothing free: two answers to one table, and the two buffers left, are equal. So
+-- are the launcher's numbers, and a number tells its answer.
+use mathlib.Core.Path.{_≡_, refl, sym, ap, _∙_}
 use mathlib.Core.Logic.{_⊎_, inl, inr}
 use mathlib.Core.List.{List}
 use Prim.Native.Nat.{ℕ, zero, _+_, _*_, _/_, _%_, _≤_, _<_}
@@ -17,9 +18,9 @@ use Rattle.analysis.specs.declared.RingPlace.{RingPlace}
 use Rattle.analysis.specs.declared.Verdict.{Verdict}
 use Rattle.analysis.specs.declared.Verdict.the-variants.{Clear as SaysClear, Ring as SaysRing}
 use Rattle.analysis.specs.declared.Answer.{Answer}
-use Rattle.analysis.specs.declared.Answer.the-variants.{Judged}
+use Rattle.analysis.specs.declared.Answer.the-variants.{Judged, Refused}
 use Rattle.table.specs.Constants.{row-bytes, row-names}
-use Rattle.analysis.specs.Answer.{Flag, Cell, Models, Says, JudgedAs, Analysed}
+use Rattle.analysis.specs.Answer.{Flag, Cell, Models, Says, JudgedAs, Analysed, Fits, numberOf, AnalysedAs}
 
 -- a fact has one flag
 pub flag-unique : (v w : ℕ) (Q : Type 0) → Flag v Q → Flag w Q → v ≡ w
@@ -116,3 +117,34 @@ analysed-unique table before after after′ answer answer′ p q = by (checkTabl
         let y = q .refused-table n e in
         (cc (x .1, y .1), cc (x .0, y .0))
     by (accepted P) e = sized P e (decLt (length before) (row-bytes * length P))
+
+-- and so are the launcher's numbers
+pub number-unique :
+    (table before after after′ : List ℕ) (n m : ℕ) → AnalysedAs table before after n → AnalysedAs table before after′ m
+    → (after ≡ after′) × (n ≡ m)
+number-unique table before after after′ n m p q =
+    let same = analysed-unique table before after after′ (p .0) (q .0) (p .2) (q .2) in
+    (same .0, p .1 ∙ ap numberOf (same .1) ∙ sym (q .1))
+
+-- the launcher's number tells the answer
+pub number-tells : (a b : Answer) → Fits a → Fits b → numberOf a ≡ numberOf b → a ≡ b
+number-tells (Judged SaysClear) (Judged SaysClear) f g e = refl
+number-tells (Judged SaysClear) (Judged (SaysRing y)) f g e = absurd (omega arith)
+number-tells (Judged SaysClear) (Refused y) f g e = let l = g .0 in absurd (omega arith)
+number-tells (Judged (SaysRing x)) (Judged SaysClear) f g e = absurd (omega arith)
+number-tells (Judged (SaysRing x)) (Judged (SaysRing y)) f g e =
+    let l = f .1 in
+    let m = g .1 in
+    let r : x .routine ≡ y .routine = omega arith in
+    let n : x .name ≡ y .name = omega arith in
+    λ i. Judged (SaysRing (record { routine = r i; name = n i }))
+number-tells (Judged (SaysRing x)) (Refused y) f g e = let l = g .1 in absurd (omega arith)
+number-tells (Refused x) (Judged SaysClear) f g e = let l = f .0 in absurd (omega arith)
+number-tells (Refused x) (Judged (SaysRing y)) f g e = let l = f .1 in absurd (omega arith)
+number-tells (Refused x) (Refused y) f g e = ap Refused e
+
+-- it is 0 to 15 or, of a ring, 65,536 and more, and at most that of routine 63 and name 15
+pub number-few : (a : Answer) → Fits a → (numberOf a ≤ 15) ⊎ ((65536 ≤ numberOf a) × (numberOf a ≤ 130528))
+number-few (Judged SaysClear) f = inl (omega arith)
+number-few (Judged (SaysRing x)) f = let l = f .0 in let m = f .1 in inr (omega arith, omega arith)
+number-few (Refused e) f = inl (f .1)

@@ -1,4 +1,4 @@
--- `recorded` meets its contract: for each body that the bytes can be, the grid has what the items passed record.
+-- `recorded` meets its contract: for each body that the bytes can be, the grid gained what the items passed record.
 use mathlib.Core.Logic.{⊎-elim}
 use mathlib.Core.Path.{ap}
 use Prim.Native.Nat.{_-_}
@@ -8,32 +8,31 @@ use borrow.Author.Needs.{needs}
 use Rattle.grid.specs.Grid.{Square}
 use Rattle.grid.specs.laws.Square.{square-of}
 use Rattle.pairs.specs.Walks.{Walk, walkOf}
-use Rattle.pairs.proofs.Recording.{Recording, record-start, record-there, record-entries, record-ready, record-less}
+use Rattle.pairs.proofs.Recording.{Recording, record-start, record-there, record-entries, record-ready}
 use Rattle.pairs.proofs.Recording.{record-lock-ready, record-call-ready, record-lock, record-call, record-other}
-use Rattle.pairs.proofs.Recording.{record-end}
+use Rattle.pairs.proofs.Recording.{record-less, record-end}
 use Rattle.pairs.proofs.recorded.Statement.{statement}
 use Rattle.pairs.proofs.recorded.Tie as tie
 
 abbrev Inv-loop : tie.InvT-loop
-Inv-loop ks s at rows holders₀ threads₀ p₀ g₀ holders threads p g =
-    Recording ks s at rows (walkOf p holders threads) g × Square g
+Inv-loop ks s at rows f holders₀ threads₀ p₀ g holders threads p =
+    Recording ks s at rows f (walkOf p holders threads) g × Square g
 
 abbrev μ-loop : tie.MeasureT-loop
-μ-loop ks s at rows holders₀ threads₀ p₀ g₀ holders threads p g = length s - p .at
-
-empty-requires : tie.Need-empty-requires Inv-loop μ-loop
-empty-requires c κs = search needs
+μ-loop ks s at rows f holders₀ threads₀ p₀ g holders threads p = length s - p .at
 
 loop-holds : tie.Need-loop-holds Inv-loop μ-loop
 loop-holds c =
-    let a = c .before .before .before .before .args in (
-      record-start (a .ks .now) (a .s .now) (a .at) (a .rows .now) (c .empty .result) (c .empty .ensures),
-      square-of (c .empty .result) _ (c .empty .ok .1 .0 .1) (c .empty .ok .1 .1),
+    let b = c .before .before .before in
+    let a = b .args in
+    let f = a .t1 in (
+      record-start (a .ks .now) (a .s .now) (a .at) (a .rows .now) f (b .pre .2),
+      square-of f _ (b .good .0 .1 .0 .1) (b .good .0 .1 .1),
     )
 
 shared-slice-read-b : tie.Need-shared-slice-read-b Inv-loop μ-loop
 shared-slice-read-b c =
-    let b = c .before .before .before .before .before .before in
+    let b = c .before .before .before .before .before in
     let l = c .before .loop in
     record-there (l .inv .0) (b .pre .0)
 
@@ -42,58 +41,60 @@ over-requires c κs = search needs
 
 returns : tie.Need-returns Inv-loop μ-loop
 returns c =
-    let b = c .before .before .before .before .before .before .before .before in
+    let b = c .before .before .before .before .before .before .before in
     let l = c .before .before .before .loop in
     let o = rw (c .if1 .taken) at (c .before .over .ensures) in
     record-end (l .inv .0) (b .pre .0) (o .0) (o .1)
 
 array-read-h : tie.Need-array-read-h Inv-loop μ-loop
 array-read-h c =
-    let b = c .before .before .before .before .before .before .before .before in
+    let b = c .before .before .before .before .before .before .before in
     let l = c .before .before .before .loop in
     let z = record-entries (l .inv .0) (b .pre .0) in
     search needs
 
 array-read-t : tie.Need-array-read-t Inv-loop μ-loop
 array-read-t c =
-    let b = c .before .before .before .before .before .before .before .before in
+    let b = c .before .before .before .before .before .before .before in
     let l = c .before .before .before .loop in
     let z = record-entries (l .inv .0) (b .pre .0) in
     search needs
 
 locked-requires : tie.Need-locked-requires Inv-loop μ-loop
 locked-requires c κs =
-    let b = c .before .before .before .before .before .before .before .before .before .before in
+    let b = c .before .before .before .before .before .before .before .before .before in
     let l = c .before .before .before .before .before .loop in
     (record-lock-ready (l .inv .0) (b .pre .0) (search needs), l .inv .0 .small, l .inv .1)
 
 called-requires : tie.Need-called-requires Inv-loop μ-loop
 called-requires c κs =
-    let b = c .before .before .before .before .before .before .before .before .before .before .before in
+    let b = c .before .before .before .before .before .before .before .before .before .before in
     let l = c .before .before .before .before .before .before .loop in
     (record-call-ready (l .inv .0) (b .pre .0) (search needs) (b .pre .1), l .inv .0 .small, l .inv .1)
 
 step-requires : tie.Need-step-requires Inv-loop μ-loop
 step-requires c κs =
-    let b = c .before .before .before .before .before .before .before .before .before .before .before in
+    let b = c .before .before .before .before .before .before .before .before .before .before in
     let l = c .before .before .before .before .before .before .loop in
     let h = rw (c .before .before .before .if1 .left) at (c .before .before .before .before .over .ensures) in
     record-ready (l .inv .0) (b .pre .0) h
 
 loop-less : tie.Need-loop-less Inv-loop μ-loop
 loop-less c =
-    let b = c .before .before .before .before .before .before .before .before .before .before .before .before in
+    let b = c .before .before .before .before .before .before .before .before .before .before .before in
     let l = c .before .before .before .before .before .before .before .loop in
-    let h = rw (c .before .before .before .before .if1 .left) at (c .before .before .before .before .before .over .ensures) in
+    let o = c .before .before .before .before .before .over in
+    let h = rw (c .before .before .before .before .if1 .left) at (o .ensures) in
     let z = record-less (l .inv .0) (b .pre .0) h in
     let e = ap (λ (v : Walk). v .at) (c .step .ensures) in
     omega arith
 
 loop-again : tie.Need-loop-again Inv-loop μ-loop
 loop-again c =
-    let b = c .before .before .before .before .before .before .before .before .before .before .before .before in
+    let b = c .before .before .before .before .before .before .before .before .before .before .before in
     let l = c .before .before .before .before .before .before .before .loop in
-    let h = rw (c .before .before .before .before .if1 .left) at (c .before .before .before .before .before .over .ensures) in
+    let o = c .before .before .before .before .before .over in
+    let h = rw (c .before .before .before .before .if1 .left) at (o .ensures) in
     rw (c .step .ensures) (⊎-elim
     (λ q. rw (q .3) (record-lock (l .inv .0) (b .pre .0) _ h (search needs) (q .2 .ensures .0), q .2 .ensures .1))
     (⊎-elim
@@ -107,7 +108,6 @@ recorded-spec =
     (tie.spec
     Inv-loop
     μ-loop
-    empty-requires
     loop-holds
     shared-slice-read-b
     over-requires

@@ -1,4 +1,4 @@
--- What it is for a family of pairs to satisfy document 01's rules, with recording as a function of the rows called.
+-- What it is for a family of pairs to satisfy the rules (docs/FORMAT.md); recording is a function of the rows called.
 use mathlib.Core.Path.{_≡_}
 use mathlib.Core.Logic.{_≢_, _⊎_}
 use mathlib.Core.Option.{Option, none, some}

@@ -1,5 +1,4 @@
 -- `check` meets its contract: each return before the last is one ground of refusal of the header.
-use mathlib.Core.Path.{_≡_, refl, sym, ap, _∙_}
 use native.Mathlib.Omega.{arith}
 use Rattle.table.proofs.HeaderLaws.{no-byte, no-routine, many-routines, short}
 use borrow.Author.Needs.{needs}

@@ -1,5 +1,5 @@
 -- `check_sections` meets its contract: each return before the last is one ground of refusal, 4 to 6.
-use mathlib.Core.Path.{_≡_, refl, sym, ap, _∙_}
+use mathlib.Core.Path.{_∙_}
 use native.Mathlib.Omega.{arith}
 use Prim.Native.Nat.{_+_, _*_}
 use Rattle.table.proofs.HeaderLaws.{counts-bad, main-bad, large, uneven, both-read}

@@ -1,4 +1,4 @@
--- Every worked table of document 01 is what its entry says: one test with what it proves, computed over the whole list.
+-- Every worked table of docs/FORMAT.md is what its entry says: one test with what it proves, over the whole list.
 use mathlib.Core.Path.{_≡_, refl}
 use mathlib.Core.Bool.{Bool, true, false, cond, _&&_}
 use mathlib.Core.Logic.{inl, inr}

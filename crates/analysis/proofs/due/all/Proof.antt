@@ -1,6 +1,6 @@
 -- `all` meets its contract: the mask has the routines passed so far.
-use mathlib.Core.Path.{_≡_, refl, sym, ap, _∙_}
-use Prim.Native.Nat.{_-_, _≤_, _<_}
+use mathlib.Core.Path.{_≡_}
+use Prim.Native.Nat.{_-_, _≤_}
 use Rattle.analysis.specs.laws.Due.{All}
 use Rattle.analysis.proofs.MaskLaws.{top-fits}
 use Rattle.analysis.proofs.DueLaws.{all-none, all-turn}

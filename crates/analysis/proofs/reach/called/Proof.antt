@@ -1,6 +1,5 @@
 -- `called` meets its contract: the mask has what the callers passed so far call.
 use mathlib.Core.Logic.{⊎-elim}
-use mathlib.Core.Path.{_≡_, refl, sym}
 use Prim.Native.Nat.{_-_, _≤_}
 use lib.ListN.{length}
 use Rattle.grid.specs.Rows.{Bits}

@@ -2,7 +2,6 @@
 use mathlib.Core.Path.{_≡_}
 use Prim.Native.Nat.{_+_, _≤_, _-_}
 use lib.ListN.{length, take}
-use lib.Seq.{take-all}
 use Rattle.listing.specs.laws.Appending.{Appends, nothing, one-more, all, same-size}
 use borrow.Author.Needs.{needs}
 use native.Mathlib.Omega.{arith}

@@ -3,7 +3,7 @@ use borrow.Author.Needs.{needs}
 use Rattle.table.proofs.scope.in_scope.Statement.{statement}
 use Rattle.table.proofs.scope.in_scope.Tie as tie
 use native.Mathlib.Omega.{arith}
-use mathlib.Core.Path.{_≡_, refl, sym, _∙_}
+use mathlib.Core.Path.{sym}
 use Rattle.table.specs.laws.ScopeMask.{bits-test, bits-above}
 
 shr-result : tie.Need-shr-result
