@@ -21,9 +21,10 @@ extern "C" {
 
 /* Row r of the model is the VANGPEAR_ROW bytes from VANGPEAR_ROW * r on: 64 cells and a last byte. Cell 8 * a + b, for
  * a and b from 0 to 7, is the sum of the labels under which routine r has name a held while name b is wanted, and 0
- * where there is none. Name 0 is the lock that the thread took last before the call and still holds, the others are
- * the routine's parameters. The last byte is 1 where the pairs of the routine's body have a ring, and otherwise 0.
- * These two give the index in the model buffer. */
+ * where there is none. Name 0 is the lock that the thread took last before the call and still holds (a LOCK on a name
+ * that its thread has locked around it in the same body does not count as taking: docs/FORMAT.md), the others are the
+ * routine's parameters. The last byte is 1 where the pairs of the routine's body have a ring, and otherwise 0. These
+ * two give the index in the model buffer. */
 #define VANGPEAR_CELL(routine, a, b) (VANGPEAR_ROW * (routine) + 8u * (a) + (b))
 #define VANGPEAR_LAST(routine) (VANGPEAR_ROW * (routine) + 64u)
 

@@ -2,7 +2,7 @@
 
 use crate::generate::assemble;
 use crate::limits::code::*;
-use crate::limits::ROW_BYTES;
+use crate::limits::{MAX_NEW, MAX_PARAMETERS, ROW_BYTES};
 use crate::{hex, Answer};
 
 /// A table with the verdict it must get.
@@ -72,7 +72,7 @@ pub fn worked() -> Vec<Case> {
             "j-main-thread-locks-first-again",
             "01 00 14 00 01 01 03 02 01 02 02 00 00 00
              02 01 02 02 02 01 00 00 00 00",
-            ring(0, 1),
+            clear,
         ),
     ]
     .into_iter()
@@ -160,14 +160,236 @@ pub fn limits() -> Vec<Limit> {
 
 /// Tables that come out otherwise where one rule is read otherwise.
 pub fn rules() -> Vec<Case> {
+    let mut all = pair_rules();
+    all.extend(nest_rules());
+    all
+}
+
+/// A table whose routine 0 makes a lock for each parameter of routine 1 and calls it
+/// with all of them; the bodies from routine 1 on follow.
+fn called(parameters: &[u8], bodies: &[&[u8]]) -> Vec<u8> {
+    let counts = [&[0], parameters].concat();
+    let names: Vec<u8> = (1..=parameters[0]).collect();
+    let news = vec![NEW; names.len()];
+    let section = [&news, &[CALL, 1][..], &names, &[END], &bodies.concat()].concat();
+    assemble(&counts, &section)
+}
+
+/// LOCK items on these names, one inside the other, with `inside` in the innermost.
+fn nest(names: &[u8], inside: &[u8]) -> Vec<u8> {
+    let locks: Vec<u8> = names.iter().flat_map(|&name| [LOCK, name]).collect();
+    [&locks, inside, &vec![END; names.len()]].concat()
+}
+
+/// A fork that runs these items.
+fn fork(items: &[u8]) -> Vec<u8> {
+    [&[FORK], items, &[END]].concat()
+}
+
+/// A choice between these items.
+fn choice(first: &[u8], second: &[u8]) -> Vec<u8> {
+    [&[CHOICE], first, &[OTHER], second, &[END]].concat()
+}
+
+/// Tables that tell what counts as one thread, one body, one name and one nest, for a
+/// LOCK that is passed over.
+fn nest_rules() -> Vec<Case> {
     let clear = Answer::Clear;
     let ring = |routine, name| Answer::Ring { routine, name };
-    // Routine 0 makes two locks and calls routine 1 with both; the bodies follow.
-    let called = |parameters: &[u8], bodies: &[&[u8]]| {
-        let counts = [&[0], parameters].concat();
-        let section = [&[NEW, NEW, CALL, 1, 1, 2, END], &bodies.concat()[..]].concat();
-        assemble(&counts, &section)
-    };
+    let lock = |name: u8| nest(&[name], &[]);
+    // A body of these items, one after another.
+    let body = |parts: &[&[u8]]| [&parts.concat()[..], &[END]].concat();
+    // A table whose routine 1 has that body, and calls none.
+    let alone = |parameters: u8, parts: &[&[u8]]| called(&[parameters], &[&body(parts)]);
+    let locks_its_parameter = body(&[&lock(1)]);
+    let fork_one_then_two = fork(&nest(&[1, 2], &[]));
+    let fork_three_then_two = fork(&nest(&[3, 2], &[]));
+    // With a LOCK around them and two LOCK items inside, sixteen blocks are open.
+    let thirteen_choices = (0..13).fold(nest(&[2, 1], &[]), |inside, _| choice(&[], &inside));
+
+    [
+        (
+            "inside a LOCK passed over the h is the outer one",
+            alone(3, &[&nest(&[1, 2, 1, 3], &[])]),
+            clear,
+        ),
+        (
+            "a CALL inside a LOCK passed over puts the outer h for name 0",
+            called(
+                &[3, 1],
+                &[
+                    &body(&[&fork_three_then_two, &nest(&[1, 2, 1], &[CALL, 2, 3])]),
+                    &locks_its_parameter,
+                ],
+            ),
+            ring(0, 2),
+        ),
+        (
+            "behind a LOCK passed over the h is as before it",
+            alone(
+                3,
+                &[
+                    &fork_three_then_two,
+                    &nest(&[1, 2], &[lock(1), lock(3)].concat()),
+                ],
+            ),
+            ring(0, 2),
+        ),
+        (
+            "a fork in a LOCK block does not hold its name",
+            alone(
+                2,
+                &[&nest(&[1], &[lock(2), fork(&nest(&[2, 1], &[]))].concat())],
+            ),
+            ring(0, 1),
+        ),
+        (
+            "a fork passes over what it holds itself",
+            alone(3, &[&fork(&nest(&[1, 2, 1, 3], &[])), &nest(&[1, 2], &[])]),
+            clear,
+        ),
+        (
+            "a nest goes on behind a fork in it",
+            alone(
+                2,
+                &[
+                    &fork_one_then_two,
+                    &nest(&[1], &[fork(&lock(2)), nest(&[2, 1], &[])].concat()),
+                ],
+            ),
+            clear,
+        ),
+        (
+            "a callee does not hold what its caller holds",
+            called(
+                &[2, 1],
+                &[
+                    &body(&[&fork_one_then_two, &nest(&[1, 2], &[CALL, 2, 1])]),
+                    &locks_its_parameter,
+                ],
+            ),
+            ring(0, 1),
+        ),
+        (
+            "a name is held no longer than its block",
+            alone(
+                2,
+                &[
+                    &fork_one_then_two,
+                    &nest(&[1, 2, 1], &[]),
+                    &nest(&[2, 1], &[]),
+                ],
+            ),
+            ring(0, 1),
+        ),
+        (
+            "the end of a LOCK passed over ends no hold",
+            alone(
+                2,
+                &[
+                    &fork_one_then_two,
+                    &nest(&[1], &[lock(1), nest(&[2, 1], &[])].concat()),
+                ],
+            ),
+            clear,
+        ),
+        (
+            "both alternatives stand in the nest around the choice",
+            alone(
+                3,
+                &[
+                    &fork_one_then_two,
+                    &nest(&[1], &choice(&nest(&[2, 1], &[]), &nest(&[3, 1, 2], &[]))),
+                ],
+            ),
+            clear,
+        ),
+        (
+            "what one alternative holds the other does not",
+            alone(
+                2,
+                &[
+                    &fork_one_then_two,
+                    &choice(&nest(&[1, 2], &[]), &nest(&[2, 1], &[])),
+                ],
+            ),
+            ring(0, 1),
+        ),
+        (
+            "two parameters are two names, also for one lock",
+            called(
+                &[2, 3],
+                &[
+                    &body(&[&fork_one_then_two, &[CALL, 2, 1, 2, 1]]),
+                    &body(&[&nest(&[1, 2, 3], &[])]),
+                ],
+            ),
+            ring(0, 1),
+        ),
+        (
+            "names taken again, one in another",
+            alone(3, &[&nest(&[1, 2, 1, 2, 3], &[])]),
+            clear,
+        ),
+        (
+            "three names taken again down to the last block",
+            alone(
+                4,
+                &[&nest(
+                    &[1, 2, 3, 1, 2, 3, 1, 2, 3, 1, 2, 3, 2, 1, 1, 4],
+                    &[],
+                )],
+            ),
+            clear,
+        ),
+        (
+            "the name of the innermost block taken again",
+            alone(2, &[&nest(&[1, 1, 2], &[])]),
+            clear,
+        ),
+        (
+            "the name of the outermost block taken again in the sixteenth",
+            alone(2, &[&fork_one_then_two, &nest(&[1], &thirteen_choices)]),
+            clear,
+        ),
+        (
+            "the highest names taken again",
+            alone(
+                MAX_PARAMETERS,
+                &[
+                    &[NEW; MAX_NEW as usize],
+                    &fork(&nest(&[14, 15], &[])),
+                    &nest(&[14, 15, 14], &[]),
+                ],
+            ),
+            clear,
+        ),
+        (
+            "a name and the one eight above it are two",
+            alone(
+                MAX_PARAMETERS,
+                &[
+                    &[NEW; MAX_NEW as usize],
+                    &fork(&nest(&[15, 7], &[])),
+                    &nest(&[7, 15], &[]),
+                ],
+            ),
+            ring(1, 7),
+        ),
+    ]
+    .into_iter()
+    .map(|(name, table, answer)| Case {
+        name,
+        table,
+        answer,
+    })
+    .collect()
+}
+
+/// What a place, a label, a call and a row are.
+fn pair_rules() -> Vec<Case> {
+    let clear = Answer::Clear;
+    let ring = |routine, name| Answer::Ring { routine, name };
     let one_then_two = [LOCK, 1, LOCK, 2, END, END, END];
     let fork_one_then_two = [FORK, LOCK, 1, LOCK, 2, END, END, END, END];
     // (1, 2) several over a local 3.

@@ -167,7 +167,9 @@ struct Program<const R: usize, const C: usize> {
 #[derive(Clone, Copy)]
 struct Place {
     /// The names in scope, as bits.
-    scope: u32,
+    scope: u16,
+    /// The names in the LOCK blocks of the thread around this place, as bits.
+    nest: u16,
     holder: u8,
     thread: u8,
     /// Whether the block is a first alternative.
@@ -294,6 +296,7 @@ fn read_body<const R: usize, const C: usize>(
         depth: 0,
         here: Place {
             scope: (2 << parameters) - 2,
+            nest: 0,
             holder: 0,
             thread: OWN as u8,
             first: false,
@@ -322,10 +325,14 @@ fn read_body<const R: usize, const C: usize>(
                 let (held, thread) = (reader.here.holder, reader.here.thread);
                 reader.open(&mut outside)?;
                 let name = reader.name(section)?;
-                if held != NOTHING {
-                    body.record(thread as usize, held as usize, 1 << name);
+                // A name in the nest is passed over: inside the block all is as outside it.
+                if reader.here.nest >> name & 1 == 0 {
+                    if held != NOTHING {
+                        body.record(thread as usize, held as usize, 1 << name);
+                    }
+                    reader.here.nest |= 1 << name;
+                    reader.here.holder = name;
                 }
-                reader.here.holder = name;
             }
             code::FORK => {
                 reader.open(&mut outside)?;
@@ -333,6 +340,7 @@ fn read_body<const R: usize, const C: usize>(
                     return Err(refusal::TOO_MANY);
                 }
                 forks += 1;
+                reader.here.nest = 0;
                 reader.here.holder = NOTHING;
                 reader.here.thread = forks;
             }

@@ -19,7 +19,7 @@ pub struct Frame {
 const SEED: u64 = 1;
 
 /// How many random tables there are of each kind.
-const RANDOM: [(Kind, usize); 7] = [
+const RANDOM: [(Kind, usize); 8] = [
     (Kind::Small, 240),
     (Kind::Deep, 40),
     (Kind::Wide, 30),
@@ -27,6 +27,7 @@ const RANDOM: [(Kind, usize); 7] = [
     (Kind::Damaged, 160),
     (Kind::Arbitrary, 80),
     (Kind::Full, 6),
+    (Kind::Nested, 120),
 ];
 
 /// A boundary table that is longer than this is left to `compare`.
@@ -118,7 +119,7 @@ pub fn listings(frames: &[Frame]) -> Vec<u8> {
 #[cfg(test)]
 mod tests {
     use super::*;
-    use crate::{analyse, Answer};
+    use crate::{analyse, analyse_by, Answer, Rules};
 
     #[test]
     fn frames_are_as_said() {
@@ -145,6 +146,19 @@ mod tests {
         for (number, count) in refused.iter().enumerate().skip(1) {
             assert!(*count > 0, "refusal {number} was not met");
         }
+    }
+
+    #[test]
+    fn frames_meet_what_request_101_changes() {
+        let mut changed = 0;
+        for frame in all() {
+            let [now, before] = [Rules::InForce, Rules::Before101].map(|rules| {
+                let mut buffer = vec![0; frame.buffer];
+                (analyse_by(rules, &frame.table, &mut buffer), buffer)
+            });
+            changed += usize::from(now != before);
+        }
+        assert!(changed >= 80, "{changed}");
     }
 
     #[test]

@@ -76,9 +76,11 @@ pub enum Kind {
     Arbitrary,
     /// As many body bytes as a table can have, or nearly so.
     Full,
+    /// LOCK items on names of the LOCK blocks around them.
+    Nested,
 }
 
-pub const KINDS: [(Kind, &str); 7] = [
+pub const KINDS: [(Kind, &str); 8] = [
     (Kind::Small, "small"),
     (Kind::Deep, "deep"),
     (Kind::Wide, "wide"),
@@ -86,18 +88,20 @@ pub const KINDS: [(Kind, &str); 7] = [
     (Kind::Damaged, "damaged"),
     (Kind::Arbitrary, "arbitrary"),
     (Kind::Full, "full"),
+    (Kind::Nested, "nested"),
 ];
 
 /// Table number `index` of a seed, with its kind.
 pub fn random(seed: u64, index: u64) -> (Kind, Vec<u8>) {
     let mut rng = Rng::indexed(seed, index);
     let kind = match rng.below(100) {
-        0..=34 => Kind::Small,
-        35..=43 => Kind::Deep,
-        44..=49 => Kind::Wide,
-        50..=57 => Kind::Tangle,
-        58..=84 => Kind::Damaged,
-        85..=98 => Kind::Arbitrary,
+        0..=26 => Kind::Small,
+        27..=34 => Kind::Deep,
+        35..=40 => Kind::Wide,
+        41..=47 => Kind::Tangle,
+        48..=69 => Kind::Nested,
+        70..=89 => Kind::Damaged,
+        90..=98 => Kind::Arbitrary,
         _ => Kind::Full,
     };
     let table = of_kind(&mut rng, kind);
@@ -114,6 +118,7 @@ pub fn of_kind(rng: &mut Rng, kind: Kind) -> Vec<u8> {
         Kind::Damaged => damaged(rng),
         Kind::Arbitrary => arbitrary(rng),
         Kind::Full => full(rng),
+        Kind::Nested => nested(rng),
     }
 }
 
@@ -133,6 +138,18 @@ struct Style {
     max_new: u8,
     max_fork: u8,
     max_open: usize,
+    nests: Nests,
+}
+
+/// How a random LOCK comes by its name.
+enum Nests {
+    /// Any name in scope.
+    Any,
+    /// At least so many times in a hundred that of a LOCK block around it, also around its fork.
+    Again(usize),
+    /// At least so many times in a hundred one that its thread holds in the body; else one
+    /// above all that it holds there, or the highest of those again.
+    Rising(usize),
 }
 
 /// Writes one valid random body.
@@ -142,6 +159,10 @@ struct Writer<'a> {
     counts: &'a [u8],
     parameters: u8,
     scope: Vec<u8>,
+    /// The names of the open LOCK blocks, the outermost first.
+    locks: Vec<u8>,
+    /// How many of them are outside the fork of the place.
+    outside_fork: usize,
     news: u8,
     forks: u8,
     /// Bytes that may still be written, closing bytes already set aside.
@@ -158,6 +179,8 @@ fn body(rng: &mut Rng, style: &Style, counts: &[u8], routine: usize, room: usize
         counts,
         parameters,
         scope: (1..=parameters).collect(),
+        locks: Vec::new(),
+        outside_fork: 0,
         news: 0,
         forks: 0,
         room: room - 1,
@@ -203,16 +226,20 @@ impl Writer<'_> {
             self.new_item();
         } else if falls_to(style.lock) {
             if may_open && self.take(3, !self.scope.is_empty()) {
-                let name = self.name();
+                let name = self.lock_name();
                 self.out.extend([code::LOCK, name]);
+                self.locks.push(name);
                 self.items(depth + 1);
+                self.locks.pop();
                 self.out.push(code::END);
             }
         } else if falls_to(style.fork) {
             if may_open && self.take(2, self.forks < style.max_fork) {
                 self.forks += 1;
                 self.out.push(code::FORK);
+                let outside_fork = std::mem::replace(&mut self.outside_fork, self.locks.len());
                 self.items(depth + 1);
+                self.outside_fork = outside_fork;
                 self.out.push(code::END);
             }
         } else if falls_to(style.choice) {
@@ -259,6 +286,24 @@ impl Writer<'_> {
     fn name(&mut self) -> u8 {
         self.scope[self.rng.below(self.scope.len())]
     }
+
+    /// A name for a LOCK.
+    fn lock_name(&mut self) -> u8 {
+        let (around, often) = match self.style.nests {
+            Nests::Any => return self.name(),
+            Nests::Again(often) => (&self.locks[..], often),
+            Nests::Rising(often) => (&self.locks[self.outside_fork..], often),
+        };
+        if !around.is_empty() && self.rng.chance(often) {
+            return around[self.rng.below(around.len())];
+        }
+        let least = match self.style.nests {
+            Nests::Rising(_) => around.iter().copied().max().unwrap_or(0),
+            _ => 0,
+        };
+        // A name that is too low gives way to the highest held, taken again.
+        self.name().max(least)
+    }
 }
 
 /// A table of valid bodies, with the room given for each.
@@ -293,6 +338,7 @@ fn small(rng: &mut Rng) -> Vec<u8> {
         max_new: rng.between(2, 4) as u8,
         max_fork: rng.between(1, 4) as u8,
         max_open: rng.between(3, 6),
+        nests: Nests::Any,
     };
     let routines = rng.between(1, 4);
     let most = rng.between(2, 3);
@@ -314,6 +360,7 @@ fn deep(rng: &mut Rng) -> Vec<u8> {
         max_new: MAX_NEW,
         max_fork: MAX_FORK,
         max_open: MAX_OPEN,
+        nests: Nests::Any,
     };
     let routines = rng.between(1, 3);
     let counts = counts(rng, routines, 3);
@@ -334,6 +381,7 @@ fn wide(rng: &mut Rng) -> Vec<u8> {
         max_new: MAX_NEW,
         max_fork: MAX_FORK,
         max_open: rng.between(2, MAX_OPEN),
+        nests: Nests::Any,
     };
     let routines = rng.between(1, 8);
     let counts = counts(rng, routines, MAX_PARAMETERS as usize);
@@ -388,6 +436,7 @@ fn full(rng: &mut Rng) -> Vec<u8> {
         max_new: MAX_NEW,
         max_fork: MAX_FORK,
         max_open: rng.between(2, MAX_OPEN),
+        nests: Nests::Any,
     };
     let routines = if rng.chance(75) {
         MAX_ROUTINES
@@ -410,6 +459,34 @@ fn full(rng: &mut Rng) -> Vec<u8> {
     }
     section.push(code::END);
     assemble(&counts, &section)
+}
+
+fn nested(rng: &mut Rng) -> Vec<u8> {
+    let often = rng.between(20, 70);
+    let nests = if rng.chance(75) {
+        Nests::Rising(often)
+    } else {
+        Nests::Again(often)
+    };
+    let style = Style {
+        new: 1,
+        lock: rng.between(10, 16),
+        fork: rng.between(1, 4),
+        choice: rng.between(0, 3),
+        call: rng.between(0, 2),
+        stop: rng.between(5, 35),
+        fill: rng.chance(80),
+        head: rng.between(3, 5),
+        max_new: rng.between(3, 5) as u8,
+        max_fork: rng.between(1, 4) as u8,
+        max_open: rng.between(5, MAX_OPEN),
+        nests,
+    };
+    let routines = rng.between(1, 4);
+    let most = rng.between(3, 5);
+    let counts = counts(rng, routines, most);
+    let rooms: Vec<usize> = counts.iter().map(|_| rng.between(40, 140)).collect();
+    valid(rng, &style, &counts, &rooms)
 }
 
 /// Changes a valid table in one to three places.
@@ -1026,6 +1103,7 @@ pub fn boundaries() -> Vec<Boundary> {
 #[cfg(test)]
 mod tests {
     use super::*;
+    use crate::table::{read, Block, Item, Table};
     use crate::{check, limits::READ_LIMIT};
 
     #[test]
@@ -1060,7 +1138,13 @@ mod tests {
     fn undamaged_tables_are_valid() {
         let mut rng = Rng::new(1);
         for _ in 0..500 {
-            for kind in [Kind::Small, Kind::Deep, Kind::Wide, Kind::Tangle] {
+            for kind in [
+                Kind::Small,
+                Kind::Deep,
+                Kind::Wide,
+                Kind::Tangle,
+                Kind::Nested,
+            ] {
                 let table = of_kind(&mut rng, kind);
                 assert!(check(&table).is_ok(), "{kind:?} {table:?}");
             }
@@ -1082,7 +1166,6 @@ mod tests {
 
     #[test]
     fn random_tables_reach_every_depth_and_count() {
-        use crate::table::{read, Item};
         let (mut open, mut news, mut forks) = (0, 0, 0);
         for index in 0..2000 {
             let Ok(table) = read(&random(1, index).1) else {
@@ -1108,6 +1191,76 @@ mod tests {
             }
         }
         assert_eq!((open, news, forks), (16, 8, 8));
+    }
+
+    /// Where a table has a LOCK that its thread's nest passes over although another
+    /// lock was taken since, and a LOCK that only the nest of a parent would pass over.
+    #[derive(Clone, Copy, Default)]
+    struct Nesting {
+        anywhere: bool,
+        sixteenth_block: bool,
+        first_alternative: bool,
+        second_alternative: bool,
+        fork_in_lock: bool,
+        name_of_parent: bool,
+    }
+
+    impl Nesting {
+        fn of(table: &Table) -> Nesting {
+            let mut found = Nesting::default();
+            for routine in &table.routines {
+                routine.walk(|item, open| {
+                    if let Item::Lock { name } = item {
+                        found.see(*name, open);
+                    }
+                });
+            }
+            found
+        }
+
+        /// Looks at a LOCK inside these blocks.
+        fn see(&mut self, name: u8, open: &[Block]) {
+            let is_lock = |block: &Block| matches!(block, Block::Lock(_));
+            let fork = open
+                .iter()
+                .rposition(|block| matches!(block, Block::Fork(_)));
+            let (parents, own) = open.split_at(fork.map_or(0, |at| at + 1));
+            match own.iter().position(|&block| block == Block::Lock(name)) {
+                Some(at) => {
+                    let since = &own[at + 1..];
+                    if since.iter().any(|b| is_lock(b) && *b != Block::Lock(name)) {
+                        self.anywhere = true;
+                        self.sixteenth_block |= open.len() == MAX_OPEN;
+                        self.first_alternative |= since.contains(&Block::First);
+                        self.second_alternative |= since.contains(&Block::Second);
+                        self.fork_in_lock |= parents.iter().any(is_lock);
+                    }
+                }
+                // Only where something is held is there a pair to lose.
+                None => {
+                    self.name_of_parent |=
+                        parents.contains(&Block::Lock(name)) && own.iter().any(is_lock);
+                }
+            }
+        }
+    }
+
+    #[test]
+    fn random_tables_take_names_again_in_every_place() {
+        let all: Vec<Nesting> = (0..4_000)
+            .filter_map(|index| read(&random(1, index).1).ok())
+            .map(|table| Nesting::of(&table))
+            .collect();
+        // In a hundred of the accepted tables.
+        let share = |has: fn(&Nesting) -> bool| {
+            100 * all.iter().filter(|nesting| has(nesting)).count() / all.len()
+        };
+        assert!(share(|nesting| nesting.anywhere) >= 50);
+        assert!(share(|nesting| nesting.sixteenth_block) >= 4);
+        assert!(share(|nesting| nesting.first_alternative) >= 15);
+        assert!(share(|nesting| nesting.second_alternative) >= 6);
+        assert!(share(|nesting| nesting.fork_in_lock) >= 12);
+        assert!(share(|nesting| nesting.name_of_parent) >= 15);
     }
 
     #[test]

@@ -50,6 +50,11 @@ pub fn groups() -> Vec<Group> {
             valid(Kind::Tangle, RANDOM),
         ),
         group(
+            "ordinary: nested",
+            "random, many LOCKs on names that their thread holds",
+            valid(Kind::Nested, RANDOM),
+        ),
+        group(
             "full: LOCKs",
             "64 routines of seven names, LOCK and END items alone",
             vec![full_of_locks()],

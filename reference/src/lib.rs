@@ -1,5 +1,6 @@
-//! A second analyser of handler tables, written from document 01, the
-//! customer's paper, alone; docs/FORMAT.md is our page on the same format.
+//! A second analyser of handler tables, written from document 01 and request #101
+//! of document 02, the customer's papers, alone; docs/FORMAT.md is our page on the
+//! same format.
 //!
 //! It is kept plain, to be compared against, not to be fast:
 //! `table` reads and refuses, `model` works out pairs, rows and the verdict,
@@ -22,6 +23,7 @@ pub mod table;
 
 use limits::{refusal, CHECK_ROUTINE, RING_BASE, RING_NAME, RING_ROUTINE, ROW_BYTES};
 pub use listing::{listing, listing_with};
+pub use model::Rules;
 
 /// What the analysis says of a table.
 #[derive(Clone, Copy, Debug, PartialEq, Eq)]
@@ -43,6 +45,11 @@ pub fn check(table: &[u8]) -> Result<(usize, usize), u32> {
 /// Writes the model into the head of `buffer` and gives the verdict.
 /// A refusal (1 to 15) leaves the whole buffer as it was.
 pub fn analyse(table: &[u8], buffer: &mut [u8]) -> Answer {
+    analyse_by(Rules::InForce, table, buffer)
+}
+
+/// `analyse` by the rules given.
+pub fn analyse_by(rules: Rules, table: &[u8], buffer: &mut [u8]) -> Answer {
     let table = match table::read(table) {
         Ok(table) => table,
         Err(number) => return Answer::Refused(number),
@@ -52,7 +59,7 @@ pub fn analyse(table: &[u8], buffer: &mut [u8]) -> Answer {
     if buffer.len() < ROW_BYTES * rows {
         return Answer::Refused(refusal::SHORT_BUFFER);
     }
-    let outcomes = model::least_model(&table);
+    let outcomes = model::least_model(rules, &table);
     for (outcome, bytes) in outcomes.iter().zip(buffer.chunks_mut(ROW_BYTES)) {
         bytes.copy_from_slice(&model::row_bytes(outcome));
     }

@@ -61,6 +61,49 @@ fn add(pairs: &mut Pairs, pair: Pair) -> bool {
     pairs.insert(pair)
 }
 
+/// Which rules are applied.
+#[derive(Clone, Copy, Debug, PartialEq, Eq)]
+pub enum Rules {
+    /// Those in force: document 01 with request #101.
+    InForce,
+    /// Document 01 alone, to tell what the request changes.
+    Before101,
+}
+
+/// The thread at a place, and its open blocks in this body, the outermost first.
+fn thread(open: &[Block]) -> (Label, &[Block]) {
+    // Looks outward for a fork. Nothing outside it belongs to its thread.
+    for at in (0..open.len()).rev() {
+        if let Block::Fork(number) = open[at] {
+            return (Label::Fork(number), &open[at + 1..]);
+        }
+    }
+    (Label::Own, open)
+}
+
+/// Whether a LOCK on a name is passed over: one of the blocks around it, all of
+/// its thread, is a LOCK block of that name.
+fn passed_over(rules: Rules, around: &[Block], name: u8) -> bool {
+    match rules {
+        Rules::InForce => around.contains(&Block::Lock(name)),
+        Rules::Before101 => false,
+    }
+}
+
+/// The name in the nearest of a thread's LOCK blocks, where those of a LOCK that
+/// is passed over do not count.
+fn nearest(rules: Rules, blocks: &[Block]) -> Option<u8> {
+    // Looks outward from the innermost one.
+    for at in (0..blocks.len()).rev() {
+        if let Block::Lock(name) = blocks[at] {
+            if !passed_over(rules, &blocks[..at], name) {
+                return Some(name);
+            }
+        }
+    }
+    None
+}
+
 /// The thread at a place in a body, and the name it holds there (its h).
 #[derive(Clone, Copy, Debug, PartialEq, Eq)]
 struct Place {
@@ -68,32 +111,26 @@ struct Place {
     held: Option<u8>,
 }
 
-/// Looks outward from the innermost open block.
-fn place(open: &[Block]) -> Place {
-    let mut held = None;
-    for block in open.iter().rev() {
-        match *block {
-            // The nearest LOCK block counts.
-            Block::Lock(name) => held = held.or(Some(name)),
-            // A fork sees no LOCK block outside it; without one it holds nothing.
-            Block::Fork(number) => {
-                return Place {
-                    thread: Label::Fork(number),
-                    held,
-                }
-            }
-            Block::Body | Block::First | Block::Second => {}
-        }
-    }
-    // The running thread without a LOCK block holds name 0.
+/// The place inside these open blocks.
+fn place(rules: Rules, open: &[Block]) -> Place {
+    let (thread, blocks) = thread(open);
+    // Without a LOCK block the running thread holds name 0, and a fork nothing.
+    let without = match thread {
+        Label::Own => Some(OUTER_NAME),
+        _ => None,
+    };
     Place {
-        thread: Label::Own,
-        held: held.or(Some(OUTER_NAME)),
+        thread,
+        held: nearest(rules, blocks).or(without),
     }
 }
 
-/// The pair that a LOCK records; none where nothing is held.
-fn lock_pair(place: Place, name: u8) -> Option<Pair> {
+/// The pair that a LOCK records; none where it is passed over or nothing is held.
+fn lock_pair(rules: Rules, open: &[Block], name: u8) -> Option<Pair> {
+    if passed_over(rules, thread(open).1, name) {
+        return None;
+    }
+    let place = place(rules, open);
     Some(Pair {
         held: place.held?,
         wanted: name,
@@ -121,41 +158,38 @@ fn call_pair(place: Place, names: &[u8], pair: Pair) -> Option<Pair> {
 
 /// The pairs that the items of one body give, before composing.
 /// A choice gives what its two alternatives give.
-fn recorded(routine: &Routine, rows: &[Pairs]) -> Pairs {
+fn recorded(rules: Rules, routine: &Routine, rows: &[Pairs]) -> Pairs {
     let mut pairs = Pairs::new();
-    let mut open = vec![Block::Body];
-    let mut forks = 0;
-    for item in &routine.items {
-        match item {
-            Item::New => {}
-            Item::Lock { name } => {
-                if let Some(pair) = lock_pair(place(&open), *name) {
-                    add(&mut pairs, pair);
-                }
-                open.push(Block::Lock(*name));
-            }
-            Item::Call { routine, names } => {
-                for row_pair in &rows[*routine] {
-                    if let Some(pair) = call_pair(place(&open), names, *row_pair) {
-                        add(&mut pairs, pair);
-                    }
-                }
-            }
-            Item::Fork => {
-                forks += 1;
-                open.push(Block::Fork(forks));
-            }
-            Item::Choice => open.push(Block::First),
-            Item::Other => {
-                open.pop();
-                open.push(Block::Second);
-            }
-            Item::End => {
-                open.pop();
+    routine.walk(|item, open| match item {
+        Item::Lock { name } => {
+            if let Some(pair) = lock_pair(rules, open, *name) {
+                add(&mut pairs, pair);
             }
         }
-    }
+        Item::Call { routine, names } => {
+            let place = place(rules, open);
+            for row_pair in &rows[*routine] {
+                if let Some(pair) = call_pair(place, names, *row_pair) {
+                    add(&mut pairs, pair);
+                }
+            }
+        }
+        Item::New | Item::Fork | Item::Choice | Item::Other | Item::End => {}
+    });
     pairs
+}
+
+/// How many LOCK items of a table are passed over.
+pub fn locks_passed_over(table: &Table) -> usize {
+    let mut count = 0;
+    for routine in &table.routines {
+        routine.walk(|item, open| {
+            if let Item::Lock { name } = item {
+                count += usize::from(passed_over(Rules::InForce, thread(open).1, *name));
+            }
+        });
+    }
+    count
 }
 
 /// Composes (x, y) with (y, z) into (x, z), over all names of the routine,
@@ -219,13 +253,13 @@ fn rings(pairs: &Pairs) -> BTreeSet<u8> {
 
 /// The least rows that satisfy the rules: from empty rows, every body is worked
 /// out again from the last rows until a whole sweep leaves all rows as they were.
-pub fn least_model(table: &Table) -> Vec<Outcome> {
+pub fn least_model(rules: Rules, table: &Table) -> Vec<Outcome> {
     let mut rows = vec![Pairs::new(); table.routines.len()];
     loop {
         let bodies: Vec<Pairs> = table
             .routines
             .iter()
-            .map(|routine| close(recorded(routine, &rows)))
+            .map(|routine| close(recorded(rules, routine, &rows)))
             .collect();
         let next: Vec<Pairs> = table
             .routines
@@ -290,6 +324,9 @@ pub fn row_bytes(outcome: &Outcome) -> [u8; ROW_BYTES] {
 #[cfg(test)]
 mod tests {
     use super::*;
+    use crate::generate::assemble;
+    use crate::limits::code;
+    use crate::table::read;
 
     fn labels() -> Vec<Label> {
         let mut all = vec![Label::Own, Label::Unknown, Label::Several];
@@ -313,7 +350,7 @@ mod tests {
     fn places() {
         use Block::*;
         let at = |open: &[Block]| {
-            let place = place(open);
+            let place = place(Rules::InForce, open);
             (place.thread, place.held)
         };
         assert_eq!(at(&[Body]), (Label::Own, Some(0)));
@@ -329,6 +366,117 @@ mod tests {
         assert_eq!(
             at(&[Body, Fork(1), Lock(4), Fork(2)]),
             (Label::Fork(2), None)
+        );
+    }
+
+    #[test]
+    fn places_in_a_lock_block_that_is_passed_over() {
+        use Block::*;
+        let held = |rules, open: &[Block]| place(rules, open).held;
+        for (open, now, before) in [
+            // The h is that of the last LOCK block that was not passed over.
+            (&[Body, Lock(1), Lock(2), Lock(1)][..], Some(2), Some(1)),
+            (&[Body, Lock(1), Lock(1)], Some(1), Some(1)),
+            (
+                &[Body, Lock(1), Lock(2), Lock(1), Lock(2)],
+                Some(2),
+                Some(2),
+            ),
+            (
+                &[Body, Lock(1), Lock(2), Lock(2), Lock(1), Lock(1)],
+                Some(2),
+                Some(1),
+            ),
+            (
+                &[Body, Lock(1), Lock(2), Lock(1), Lock(3), Lock(2)],
+                Some(3),
+                Some(2),
+            ),
+            // A choice is no hindrance.
+            (
+                &[Body, Lock(1), First, Lock(2), Second, Lock(1)],
+                Some(2),
+                Some(1),
+            ),
+            // A fork begins anew.
+            (
+                &[Body, Lock(1), Fork(1), Lock(2), Lock(1)],
+                Some(1),
+                Some(1),
+            ),
+            (
+                &[Body, Fork(1), Lock(1), Lock(2), Lock(1)],
+                Some(2),
+                Some(1),
+            ),
+            (&[Body, Lock(1), Lock(2), Lock(1), Fork(1)], None, None),
+        ] {
+            assert_eq!(held(Rules::InForce, open), now, "{open:?}");
+            assert_eq!(held(Rules::Before101, open), before, "{open:?}");
+        }
+    }
+
+    /// The pairs that the one body with `parameters` parameters records, and how
+    /// many of its LOCK items are passed over.
+    fn recorded_in(parameters: u8, body: &[u8]) -> (Vec<(u8, u8, Label)>, usize) {
+        let section = [&[code::END], body].concat();
+        let table = read(&assemble(&[0, parameters], &section)).expect("valid");
+        let none = vec![Pairs::new(); 2];
+        let pairs = recorded(Rules::InForce, &table.routines[1], &none)
+            .iter()
+            .map(|pair| (pair.held, pair.wanted, pair.label))
+            .collect();
+        (pairs, locks_passed_over(&table))
+    }
+
+    #[test]
+    fn pairs_before_composing() {
+        use code::*;
+        use Label::{Fork, Own};
+        let main = |pairs: &[(u8, u8)]| pairs.iter().map(|&(a, b)| (a, b, Own)).collect();
+        // 3 is wanted while 2 is held, not while 1 is: composing would hide that.
+        assert_eq!(
+            recorded_in(
+                3,
+                &[LOCK, 1, LOCK, 2, LOCK, 1, LOCK, 3, END, END, END, END, END]
+            ),
+            (main(&[(0, 1), (1, 2), (2, 3)]), 1)
+        );
+        // Twice more, and the h stays.
+        assert_eq!(
+            recorded_in(
+                3,
+                &[LOCK, 1, LOCK, 2, LOCK, 1, LOCK, 2, LOCK, 3, END, END, END, END, END, END]
+            ),
+            (main(&[(0, 1), (1, 2), (2, 3)]), 2)
+        );
+        assert_eq!(
+            recorded_in(2, &[LOCK, 1, LOCK, 1, LOCK, 2, END, END, END, END]),
+            (main(&[(0, 1), (1, 2)]), 1)
+        );
+        // Behind a block that is passed over, the h is as before it.
+        assert_eq!(
+            recorded_in(
+                3,
+                &[LOCK, 1, LOCK, 2, LOCK, 1, END, LOCK, 3, END, END, END, END]
+            ),
+            (main(&[(0, 1), (1, 2), (2, 3)]), 1)
+        );
+        // Behind the block that holds it, the name records again.
+        assert_eq!(
+            recorded_in(2, &[LOCK, 1, END, LOCK, 2, LOCK, 1, END, END, END]),
+            (main(&[(0, 1), (0, 2), (2, 1)]), 0)
+        );
+        // A fork does not have its parent's nest, and the parent keeps its own.
+        assert_eq!(
+            recorded_in(
+                2,
+                &[
+                    LOCK, 1, FORK, LOCK, 2, LOCK, 1, END, END, END, LOCK, 2, LOCK, 1, END, END,
+                    END, END
+                ]
+            ),
+            (vec![(0, 1, Own), (1, 2, Own), (2, 1, Fork(1))], 1)
         );
     }
 }

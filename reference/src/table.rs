@@ -53,6 +53,34 @@ impl Table {
     }
 }
 
+impl Routine {
+    /// Visits each item with the blocks that are open where it stands, the
+    /// outermost first. A LOCK stands outside the block that it opens.
+    pub fn walk(&self, mut visit: impl FnMut(&Item, &[Block])) {
+        let mut open = vec![Block::Body];
+        let mut forks = 0;
+        for item in &self.items {
+            visit(item, &open);
+            match item {
+                Item::New | Item::Call { .. } => {}
+                Item::Lock { name } => open.push(Block::Lock(*name)),
+                Item::Fork => {
+                    forks += 1;
+                    open.push(Block::Fork(forks));
+                }
+                Item::Choice => open.push(Block::First),
+                Item::Other => {
+                    open.pop();
+                    open.push(Block::Second);
+                }
+                Item::End => {
+                    open.pop();
+                }
+            }
+        }
+    }
+}
+
 /// Reads a whole table, or gives the number of the first refusal.
 pub fn read(table: &[u8]) -> Result<Table, u32> {
     // 1: empty.

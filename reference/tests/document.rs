@@ -5,7 +5,8 @@ use reference::generate::{assemble, random};
 use reference::hex;
 use reference::limits::code::*;
 use reference::limits::{MAX_ROUTINES, READ_LIMIT, RING_BYTE, ROW_BYTES};
-use reference::{analyse, analyse_number, check, check_number, listing, Answer};
+use reference::table::read;
+use reference::{analyse, analyse_by, analyse_number, check, check_number, listing, Answer, Rules};
 
 /// A byte that no model holds.
 const FILLER: u8 = 0xA5;
@@ -93,6 +94,19 @@ fn case_h_has_its_row_1() {
 fn case_i_has_unknown_pairs_in_its_row_1() {
     let table = case("i-called-fork-one-lock-twice");
     assert_eq!(row(&table, 1), (vec![(1, 2, 2), (1, 3, 2), (2, 3, 2)], 0));
+}
+
+#[test]
+fn case_j_is_clear_and_was_a_ring_before_request_101() {
+    let table = case("j-main-thread-locks-first-again");
+    assert_eq!(row(&table, 0), (vec![], 0));
+    assert_eq!(
+        analyse_by(Rules::Before101, &table, &mut [0; ROW_BYTES]),
+        Answer::Ring {
+            routine: 0,
+            name: 1
+        }
+    );
 }
 
 // The cases on either side of a limit.
@@ -357,6 +371,161 @@ fn recursion_turns_names_round_until_all_pairs_are_there() {
     }
     let table = rule("recursion that turns three names round");
     assert_eq!(row(&table, 1), (all, 0));
+}
+
+// A LOCK on a name that its thread holds in the same body.
+
+/// The row of a thread that locks 1, then 2 inside it, then 3 inside that.
+const ONE_TWO_THREE: [(usize, usize, u8); 6] = [
+    (0, 1, 1),
+    (0, 2, 1),
+    (0, 3, 1),
+    (1, 2, 1),
+    (1, 3, 1),
+    (2, 3, 1),
+];
+
+/// The row of `ONE_THEN_TWO` beside a fork that does the same.
+const ONE_THEN_TWO_BESIDE_A_FORK: [(usize, usize, u8); 3] = [(0, 1, 1), (0, 2, 5), (1, 2, 3)];
+
+/// The row where that thread, in another place, locks 2 and then 1 inside it.
+const BOTH_WAYS_BESIDE_A_FORK: [(usize, usize, u8); 4] =
+    [(0, 1, 5), (0, 2, 5), (1, 2, 7), (2, 1, 5)];
+
+/// The row of `ONE_TWO_THREE` beside a fork that locks 3, then 2 inside it.
+const ONE_TWO_THREE_BESIDE_A_FORK: [(usize, usize, u8); 7] = [
+    (0, 1, 1),
+    (0, 2, 5),
+    (0, 3, 5),
+    (1, 2, 5),
+    (1, 3, 5),
+    (2, 3, 5),
+    (3, 2, 6),
+];
+
+#[test]
+fn the_h_in_a_lock_passed_over() {
+    for name in [
+        "inside a LOCK passed over the h is the outer one",
+        "names taken again, one in another",
+    ] {
+        assert_eq!(row(&rule(name), 1), (ONE_TWO_THREE.to_vec(), 0), "{name}");
+    }
+    for name in [
+        "a CALL inside a LOCK passed over puts the outer h for name 0",
+        "behind a LOCK passed over the h is as before it",
+    ] {
+        assert_eq!(
+            row(&rule(name), 1),
+            (ONE_TWO_THREE_BESIDE_A_FORK.to_vec(), 1),
+            "{name}"
+        );
+    }
+    let table = rule("the name of the innermost block taken again");
+    assert_eq!(row(&table, 1), (ONE_THEN_TWO.to_vec(), 0));
+    let table = rule("three names taken again down to the last block");
+    assert_eq!(most_open(&table), 16);
+    let mut rising = Vec::new();
+    for a in 0..4 {
+        for b in a + 1..=4 {
+            rising.push((a, b, 1));
+        }
+    }
+    assert_eq!(row(&table, 1), (rising, 0));
+}
+
+#[test]
+fn a_fork_has_a_nest_of_its_own() {
+    let table = rule("a fork in a LOCK block does not hold its name");
+    assert_eq!(
+        row(&table, 1),
+        (vec![(0, 1, 5), (0, 2, 5), (1, 2, 5), (2, 1, 6)], 1)
+    );
+    let table = rule("a fork passes over what it holds itself");
+    assert_eq!(
+        row(&table, 1),
+        (
+            vec![
+                (0, 1, 1),
+                (0, 2, 5),
+                (0, 3, 4),
+                (1, 2, 3),
+                (1, 3, 6),
+                (2, 3, 2)
+            ],
+            0
+        )
+    );
+}
+
+/// The most blocks that are open at one time in a table, bodies not counted.
+fn most_open(bytes: &[u8]) -> usize {
+    let mut most = 0;
+    for routine in read(bytes).expect("valid").routines {
+        routine.walk(|_, open| most = most.max(open.len() - 1));
+    }
+    most
+}
+
+#[test]
+fn how_far_a_nest_goes() {
+    for name in [
+        "a nest goes on behind a fork in it",
+        "the end of a LOCK passed over ends no hold",
+        "the name of the outermost block taken again in the sixteenth",
+    ] {
+        assert_eq!(
+            row(&rule(name), 1),
+            (ONE_THEN_TWO_BESIDE_A_FORK.to_vec(), 0),
+            "{name}"
+        );
+    }
+    for name in [
+        "a name is held no longer than its block",
+        "what one alternative holds the other does not",
+    ] {
+        assert_eq!(
+            row(&rule(name), 1),
+            (BOTH_WAYS_BESIDE_A_FORK.to_vec(), 1),
+            "{name}"
+        );
+    }
+    let table = rule("the name of the outermost block taken again in the sixteenth");
+    assert_eq!(most_open(&table), 16);
+    let table = rule("both alternatives stand in the nest around the choice");
+    assert_eq!(
+        row(&table, 1),
+        (
+            vec![
+                (0, 1, 1),
+                (0, 2, 5),
+                (0, 3, 1),
+                (1, 2, 3),
+                (1, 3, 1),
+                (3, 2, 1)
+            ],
+            0
+        )
+    );
+}
+
+#[test]
+fn a_nest_is_of_one_body_and_by_name() {
+    let table = rule("a callee does not hold what its caller holds");
+    assert_eq!(row(&table, 1), (BOTH_WAYS_BESIDE_A_FORK.to_vec(), 1));
+    assert_eq!(row(&table, 2), (vec![(0, 1, 1)], 0));
+    let table = rule("two parameters are two names, also for one lock");
+    assert_eq!(row(&table, 1), (BOTH_WAYS_BESIDE_A_FORK.to_vec(), 1));
+    assert_eq!(row(&table, 2), (ONE_TWO_THREE.to_vec(), 0));
+}
+
+#[test]
+fn a_nest_tells_all_names_apart() {
+    // 14 and 15 are locals, so the first row is empty; in the second table 7 is a parameter, and (0, 7) is in the row.
+    let table = rule("the highest names taken again");
+    assert_eq!(row(&table, 1), (vec![], 0));
+    let table = rule("a name and the one eight above it are two");
+    assert_eq!(row(&table, 1), (vec![(0, 7, 5)], 1));
 }
 
 // The listing.

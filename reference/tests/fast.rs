@@ -56,12 +56,21 @@ fn random_tables() {
     }
 }
 
+#[test]
+fn random_tables_of_nests() {
+    let mut rng = Rng::new(4);
+    for index in 0..3_000 {
+        let table = of_kind(&mut rng, Kind::Nested);
+        hold(&format!("nested table {index}"), &table);
+    }
+}
+
 /// Every prefix of some tables, and many values of each of their bytes.
 #[test]
 fn tables_cut_and_changed_everywhere() {
     let mut rng = Rng::new(3);
-    for _ in 0..4 {
-        let table = of_kind(&mut rng, Kind::Small);
+    for kind in [Kind::Small, Kind::Small, Kind::Nested, Kind::Nested] {
+        let table = of_kind(&mut rng, kind);
         for at in 0..table.len() {
             hold("a prefix", &table[..at]);
             let mut changed = table.clone();

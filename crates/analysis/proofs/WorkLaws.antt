@@ -2,7 +2,6 @@
 use mathlib.Core.Path.{_≡_, ap, _∙_}
 use mathlib.Core.Logic.{⊎-elim}
 use mathlib.Core.List.{List, [], _++_}
-use mathlib.Core.Option.{some}
 use Prim.Native.Nat.{ℕ, _+_, _*_, _≤_, _<_}
 use native.Mathlib.Omega.{arith}
 use native.Mathlib.Decide.{decLt}
@@ -11,7 +10,8 @@ use Rattle.table.specs.Constants.{END}
 use Rattle.table.specs.Program.{Program, body}
 use Rattle.table.specs.Encoding.{encode}
 use Rattle.table.specs.laws.Formed.{well-formed}
-use Rattle.rules.specs.Label.{Label, own, several}
+use Rattle.rules.specs.Label.{Label, several}
+use Rattle.rules.specs.Model.{atHead}
 use Rattle.rules.specs.laws.Closure.{Closed}
 use Rattle.rules.specs.laws.Satisfies.{RecordedFrom}
 use Rattle.grid.specs.Grid.{Pair, Small, AllKept, Empty, Closure, LowestRing}
@@ -70,7 +70,7 @@ module _ (ks s : List ℕ) (at : ℕ) (rows : List ℕ) where
       bytes : drop at s ≡ encode END (body P r) ++ rest P ks s (o .holds) r (o .listed)
       bytes = ap (λ (v : ℕ). drop v s) (o .starts) ∙ bytes-here P ks s (o .holds) r (o .listed)
 
-      gains : Gains e (RecordedFrom (RowBits rows) (body P r) own (some 0)) g
+      gains : Gains e (RecordedFrom (RowBits rows) (body P r) atHead) g
       gains = rec (body P r) _ (fine-here P ks s (o .holds) r (o .listed)) bytes
 
       -- the rows of the routines that the body calls are rows of the program
@@ -78,16 +78,16 @@ module _ (ks s : List ℕ) (at : ℕ) (rows : List ℕ) where
       to-rows a b l p =
           let w = ⊎-elim (λ q. absurd (em .none a b l q)) (λ q. q) (gains .only a b l p) in (
             recorded-calls (RowBits rows) (RowsOf (length P) rows) (body P r)
-                (λ q x y m k h. (body-calls P (well-formed P (o .holds .limits)) r q (o .listed) k, h)) own
-                (some 0) a b l (w .0),
+                (λ q x y m k h. (body-calls P (well-formed P (o .holds .limits)) r q (o .listed) k, h)) atHead a b l
+                (w .0),
             w .1,
           )
 
       from-rows : (a b : ℕ) (l : Label) → KeptFrom (RowsOf (length P) rows) (body P r) a b l → Pair g a b l
       from-rows a b l w =
           gains .new a b l
-          (recorded-calls (RowsOf (length P) rows) (RowBits rows) (body P r) (λ q x y m k h. h .1) own
-          (some 0) a b l (w .0))
+          (recorded-calls (RowsOf (length P) rows) (RowBits rows) (body P r) (λ q x y m k h. h .1) atHead
+          a b l (w .0))
           (w .1)
 
       only : (a b : ℕ) (l : Label) → Pair c a b l → Closed (KeptFrom (RowsOf (length P) rows) (body P r)) a b l

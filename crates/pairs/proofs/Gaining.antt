@@ -1,6 +1,7 @@
 -- What grids gain: nothing, one gain after another, and the pairs of one cell, LOCK or CALL.
 use mathlib.Core.Path.{_≡_, refl, sym, ap, subst, _∙_}
 use mathlib.Core.Logic.{_⊎_, inl, inr, ⊎-elim}
+use mathlib.Core.Bool.{Bool, true, false, cond}
 use mathlib.Core.List.{List, [], _∷_}
 use mathlib.Core.Option.{Option, none, some}
 use Prim.Native.Nat.{ℕ, zero, suc, _+_, _-_, _*_, _/_, _%_, _^_, _≤_, _<_}
@@ -13,16 +14,18 @@ use lib.Seq.{length-take-le, getD-take, getD-drop}
 use borrow.Author.Tests.{le-ltb}
 use Rattle.rules.specs.Label.{Label, own, unknown, several, placed}
 use Rattle.rules.specs.Number.{labelOf}
-use Rattle.rules.specs.Model.{renamed}
+use Rattle.rules.specs.laws.Number.{number-of-label}
+use Rattle.rules.specs.Model.{Kept, renamed}
 use Rattle.grid.specs.Rows.{Has, Bits}
 use Rattle.grid.specs.Grid.{In, Small, Added}
 use Rattle.grid.specs.laws.Masks.{has-zero, below-bits, bits-or, bits-one, bits-shl}
 use Rattle.grid.specs.laws.Labels.{in-one, one-in}
-use Rattle.pairs.specs.Walks.{heldBy}
-use Rattle.pairs.specs.Gains.{LockGives, CallGives, Gains, namesAt, Low, MaskGives, Placed}
+use Rattle.pairs.specs.Walks.{heldBy, inNest, holderUnder}
+use Rattle.pairs.specs.Gains.{HoldersGive, CallGives, Gains, namesAt, Low, MaskGives, Placed}
 use Rattle.rows.specs.Model.{Labelled, RowBits}
 use Rattle.pairs.specs.Gains.{Below, CellGives, LineGives, RowGives, RowReady, CallReady}
-use Rattle.pairs.proofs.Steps.{held-name}
+use Rattle.pairs.proofs.Pending.{LockGives}
+use Rattle.pairs.proofs.Steps.{held-name, in-nest, not-in-nest}
 
 pub gains-none : (g : List (List ℕ)) (N : ℕ → ℕ → Label → Type 0) → Small g → ((a b : ℕ) (l : Label) → N a b l → ⊥)
     → Gains g N g
@@ -48,15 +51,21 @@ gains-then p q = record {
   new = λ a b l w k. ⊎-elim (λ z. q .old a b l (p .new a b l z k)) (λ z. q .new a b l z k) w;
 }
 
-pub gains-map : {g r : List (List ℕ)} {N M : ℕ → ℕ → Label → Type 0} → ((a b : ℕ) (l : Label) → N a b l → M a b l)
-    → ((a b : ℕ) (l : Label) → M a b l → N a b l) → Gains g N r → Gains g M r
-gains-map f h p = record {
+-- the same gains, where the same pairs are kept
+gains-same : {g r : List (List ℕ)} {N M : ℕ → ℕ → Label → Type 0}
+    → ((a b : ℕ) (l : Label) → N a b l → Kept a b l → M a b l)
+    → ((a b : ℕ) (l : Label) → M a b l → Kept a b l → N a b l) → Gains g N r → Gains g M r
+gains-same f h p = record {
   small = p .small;
   kept = p .kept;
-  only = λ a b l w. ⊎-elim (λ z. inl z) (λ z. inr (f a b l (z .0), z .1)) (p .only a b l w);
+  only = λ a b l w. ⊎-elim (λ z. inl z) (λ z. inr (f a b l (z .0) (z .1), z .1)) (p .only a b l w);
   old = p .old;
-  new = λ a b l w k. p .new a b l (h a b l w) k;
+  new = λ a b l w k. p .new a b l (h a b l w k) k;
 }
+
+pub gains-map : {g r : List (List ℕ)} {N M : ℕ → ℕ → Label → Type 0} → ((a b : ℕ) (l : Label) → N a b l → M a b l)
+    → ((a b : ℕ) (l : Label) → M a b l → N a b l) → Gains g N r → Gains g M r
+gains-map f h p = gains-same (λ a b l w k. f a b l w) (λ a b l w k. h a b l w) p
 
 -- the pairs of one cell
 pub gains-added : {g r : List (List ℕ)} {a b : ℕ} {L : Label → Type 0} → Added g a b L r
@@ -92,14 +101,36 @@ cell-gains a b m ha hb p =
 pub lock-mask : (t : ℕ) → t ≤ 8 → 1 * 2 ^ t % 65536 < 2048
 lock-mask t l = below-bits 11 _ (omega arith) (λ j h. let e = bits-one t (omega arith) .to j h in omega arith)
 
-pub lock-gains : {g r : List (List ℕ)} (h x t : ℕ) → x < 16 → t ≤ 8
-    → Gains g (MaskGives (heldBy h) (heldBy x) (1 * 2 ^ t % 65536)) r → Gains g (LockGives x (labelOf t) (heldBy h)) r
-lock-gains h x t k n p =
+pub mask-gains : {g r : List (List ℕ)} (p q : Option ℕ) (t : ℕ) → t ≤ 8
+    → Gains g (MaskGives p q (1 * 2 ^ t % 65536)) r → Gains g (HoldersGive p q (labelOf t)) r
+mask-gains p q t n =
     let o = bits-one t (omega arith) in
     gains-map
-    (λ a b l w. (w .0, held-same x b k (w .1), in-one _ t l o (w .2)))
-    (λ a b l w. (w .0, held-name x k ∙ ap some (sym (w .1)), one-in _ t l (omega arith) o (w .2)))
-    p
+    (λ a b l w. (w .0, w .1, in-one _ t l o (w .2)))
+    (λ a b l w. (w .0, w .1, one-in _ t l (omega arith) o (w .2)))
+
+-- the thread of a place is one thread
+one-thread : (t : ℕ) → t ≤ 8 → labelOf t ≡ several → ⊥
+one-thread t l e = let n = number-of-label t (omega arith) in let m : 10 ≡ t = rw e at n in omega arith
+
+-- from the holder outside LOCK x to the one inside: a pair with equal ends is not kept
+pub lock-gains : {g r : List (List ℕ)} (h x t m : ℕ) → x < 16 → t ≤ 8
+    → Gains g (HoldersGive (heldBy h) (heldBy (holderUnder m h x)) (labelOf t)) r
+    → Gains g (LockGives (Has m) x (labelOf t) (heldBy h)) r
+lock-gains {g} {r} h x t m k n = go (inNest m x) refl
+  where
+    go : (v : Bool) → inNest m x ≡ v → Gains g (HoldersGive (heldBy h) (heldBy (cond v h x)) (labelOf t)) r
+        → Gains g (LockGives (Has m) x (labelOf t) (heldBy h)) r
+    go true e =
+        gains-same
+        (λ a b l w. ⊎-elim
+        (λ ne. absurd (ne (let same : some a ≡ some b = sym (w .0) ∙ w .1 in cc)))
+        (λ s. absurd (one-thread t n (sym (w .2) ∙ s))))
+        (λ a b l w kept. absurd (w .0 (in-nest m x e)))
+    go false e =
+        gains-map
+        (λ a b l w. (not-in-nest m x e, w .0, held-same x b k (w .1), w .2))
+        (λ a b l w. (w .1, held-name x k ∙ ap some (sym (w .2)), w .3))
 
 -- the i-th name of a list
 pub name-some : (xs : List ℕ) (i : ℕ) → i < length xs → getElem? xs i ≡ some (getD xs i 0)

@@ -2,7 +2,7 @@
 use mathlib.Core.Path.{_≡_, refl}
 use mathlib.Core.Logic.{_⊎_, inl, inr, ⊎-elim}
 use mathlib.Core.List.{List, [], _∷_, _++_}
-use mathlib.Core.Option.{none, some}
+use mathlib.Core.Option.{none}
 use Prim.Native.Nat.{ℕ, _+_, _*_, _%_, _^_, _-_, _<_}
 use native.Mathlib.Omega.{arith}
 use lib.Dec.{eqb}
@@ -14,7 +14,7 @@ use lib.Pow.{shl-exact}
 use Rattle.table.specs.Constants.{END, CALL, code}
 use Rattle.table.specs.Program.{Code}
 use Rattle.table.specs.Encoding.{encode}
-use Rattle.rules.specs.Label.{own}
+use Rattle.rules.specs.Model.{atHead}
 use Rattle.rules.specs.Verdict.{Calls}
 use Rattle.grid.specs.Rows.{Has, Bits}
 use Rattle.grid.specs.laws.Masks.{has-zero, has-pow, pow-has, bits-self, bits-map}
@@ -58,18 +58,20 @@ pub record ScanningAt (ks s : List ℕ) (at i top calls : ℕ) : Type 0 where
   pub forks : ℕ
   pub holders : List ℕ
   pub threads : List ℕ
+  pub nests : List ℕ
   pub scanning : Scanning ks s at
-      (record { at = i; forks = forks; top = top; holders = holders; threads = threads }) calls
+      (record { at = i; forks = forks; top = top; holders = holders; threads = threads; nests = nests }) calls
 
 scan-at : (ks s : List ℕ) (at i top calls : ℕ) (w : Walk) → w .at ≡ i → w .top ≡ top → Scanning ks s at w calls
     → ScanningAt ks s at i top calls
 scan-at ks s at i top calls w e f p =
-    rw (← e, ← f) (record { forks = w .forks; holders = w .holders; threads = w .threads; scanning = p })
+    rw (← e, ← f)
+    (record { forks = w .forks; holders = w .holders; threads = w .threads; nests = w .nests; scanning = p })
 
 pub scan-start : (ks s : List ℕ) (at : ℕ) → ScanningAt ks s at at 0 0
 scan-start ks s at = scan-at ks s at at 0 0 (startWalk at) refl refl (record {
   each = λ c t f e. record {
-    levels = level c none own (some 0) ∷ [];
+    levels = level c none atHead ∷ [];
     left = begins ks s t at c f e;
     met = λ q h. absurd (has-zero q h);
     pending = λ q h. ⊎-elim (λ z. z) (λ z. ⊎-elim (λ y. absurd y) (λ y. absurd y) z) h;
@@ -80,7 +82,14 @@ scan-start ks s at = scan-at ks s at at 0 0 (startWalk at) refl refl (record {
 
 module _ {ks s : List ℕ} {at i top calls : ℕ} (scan : ScanningAt ks s at i top calls) where
   abbrev w : Walk
-  w = record { at = i; forks = scan .forks; top = top; holders = scan .holders; threads = scan .threads }
+  w = record {
+    at = i;
+    forks = scan .forks;
+    top = top;
+    holders = scan .holders;
+    threads = scan .threads;
+    nests = scan .nests;
+  }
 
   abbrev p : Scanning ks s at w calls
   p = scan .scanning
@@ -148,7 +157,7 @@ module _ {ks s : List ℕ} {at i top calls : ℕ} (scan : ScanningAt ks s at i t
     only = λ c t f h. p .each c t f h .met;
     all = λ c t f h q i.
         let z = p .each c t f h in
-        ⊎-elim (λ y. y) (λ y. absurd (none-left ks s t w (z .levels) (z .left) e n (CallIn q) (λ θ g x. x) y))
+        ⊎-elim (λ y. y) (λ y. absurd (none-left ks s t w (z .levels) (z .left) e n (CallIn q) (λ π x. x) y))
         (z .all q i);
     listed = p .listed;
   }

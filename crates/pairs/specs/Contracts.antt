@@ -1,14 +1,13 @@
 -- What the two walks over a body give.
 use mathlib.Core.Path.{_≡_}
 use mathlib.Core.List.{List, _++_}
-use mathlib.Core.Option.{some}
 use Prim.Native.Nat.{ℕ, _+_, _<_}
 use lib.ListN.{length, drop}
 use Rattle.table.specs.Constants.{END}
 use Rattle.table.specs.Program.{Code}
 use Rattle.table.specs.Encoding.{encode}
 use Rattle.rules.specs.Verdict.{Calls}
-use Rattle.rules.specs.Label.{own}
+use Rattle.rules.specs.Model.{atHead}
 use Rattle.rules.specs.laws.Satisfies.{RecordedFrom}
 use Rattle.grid.specs.Rows.{Has}
 use Rattle.pairs.specs.Fine.{Fine}
@@ -26,4 +25,4 @@ pub record Scans (ks s : List ℕ) (at next calls : ℕ) : Type 0 where
 abbrev pub Records : List ℕ → List ℕ → ℕ → List ℕ → List (List ℕ) → List (List ℕ) → Type 0
 Records ks s at rows g r =
     (c : Code) (t : List ℕ) → Fine ks c → drop at s ≡ encode END c ++ t
-    → Gains g (RecordedFrom (RowBits rows) c own (some 0)) r
+    → Gains g (RecordedFrom (RowBits rows) c atHead) r

@@ -13,9 +13,9 @@ use Rattle.rules.specs.laws.Satisfies.{Pairs}
 use Rattle.rows.specs.Model.{Labelled}
 use Rattle.grid.specs.Grid.{In, Pair, Small, AllKept}
 
--- what LOCK x records in thread θ with the holder h
-abbrev pub LockGives : ℕ → Label → Option ℕ → ℕ → ℕ → Label → Type 0
-LockGives x θ h a b l = (h ≡ some a) × (b ≡ x) × (l ≡ θ)
+-- the pair from the holder h to the holder k in thread θ
+abbrev pub HoldersGive : Option ℕ → Option ℕ → Label → ℕ → ℕ → Label → Type 0
+HoldersGive h k θ a b l = (h ≡ some a) × (k ≡ some b) × (l ≡ θ)
 
 -- what CALL r with the names xs records in thread θ with the holder h
 abbrev pub CallGives : Pairs → ℕ → List ℕ → Label → Option ℕ → ℕ → ℕ → Label → Type 0
@@ -48,12 +48,6 @@ pub record Placed (cell t m : ℕ) : Type 0 where
   pub small : m < 2048
   pub only : (l : Label) → In m l → (k : Label) × Labelled cell k × (l ≡ placed (labelOf t) k)
   pub all : (k : Label) → Labelled cell k → In m (placed (labelOf t) k)
-
--- the LOCK at the offset can be recorded in the thread with the number t
-pub record LockReady (s : List ℕ) (at t : ℕ) : Type 0 where
-  pub there : at + 1 < length s
-  pub name : getD s (at + 1) 0 < most-names
-  pub thread : t ≤ most-forks
 
 -- the CALL at the offset can be recorded in the thread with the number t
 pub record CallReady (ks s rows : List ℕ) (at t : ℕ) : Type 0 where

@@ -7,9 +7,9 @@ ghost use Rattle.rules.specs.Number.{labelOf};
 ghost use Rattle.rules.specs.Model as model;
 ghost use Rattle.grid.specs.Grid.{Small, Square};
 ghost use Rattle.pairs.specs.Walks.{heldBy};
-ghost use Rattle.pairs.specs.Gains.{Gains, LockGives, CallGives, MaskGives, Placed, Low, namesAt};
+ghost use Rattle.pairs.specs.Gains.{Gains, HoldersGive, CallGives, MaskGives, Placed, Low, namesAt};
 ghost use Rattle.rows.specs.Model.{RowBits};
-ghost use Rattle.pairs.specs.Gains.{LockReady, CallReady, RowReady, LineGives, RowGives};
+ghost use Rattle.pairs.specs.Gains.{CallReady, RowReady, LineGives, RowGives};
 use crate::walk::NOTHING;
 use grid::Grid;
 use grid::put_labels;
@@ -56,14 +56,15 @@ fn put_cell(g: &mut Grid, a: u8, b: u8, m: u16)
     }
 }
 
-// Adds the pair of the LOCK at `at` to the grid in place, unless the holder h is nothing; t is the thread.
-pub fn locked(g: &mut Grid, s: &[u8], at: usize, h: u8, t: u8)
-    requires { ⌜ LockReady (now s) at t × Small (now g) × Square (now g) ⌝ }
-    ensures gains { λ _. ⌜ Gains (now (g .entry)) (LockGives (getD (now (s .entry)) (at + 1) 0) (labelOf t) (heldBy h))
+// Adds the pair of a LOCK to the grid in place: from the holder outside it to the one inside; t is the thread. Where they
+// are the same, as where the name is in the nest already, or where one is nothing, there is no pair.
+pub fn locked(g: &mut Grid, h: u8, inside: u8, t: u8)
+    requires { ⌜ (t ≤ most-forks) × Small (now g) × Square (now g) ⌝ }
+    ensures gains { λ _. ⌜ Gains (now (g .entry)) (HoldersGive (heldBy h) (heldBy inside) (labelOf t))
         (now (g .exit)) ⌝ }
     ensures square { λ _. ⌜ Square (now (g .exit)) ⌝ }
 {
-    put_cell(g, h, s[at + 1], 1u16 << (t as u16));
+    put_cell(g, h, inside, 1u16 << (t as u16));
 }
 
 // Adds the pairs of a line of a called row, whose cells start at `first` and whose first end is a: the names of the call

@@ -19,6 +19,7 @@ use table::limits::CALL;
 use table::limits::LOCK;
 use walk::LEVELS;
 use walk::Place;
+use walk::holder_inside;
 use walk::level;
 use walk::over;
 use walk::past;
@@ -69,6 +70,7 @@ pub fn recorded(mut g: Grid, ks: &[u8], s: &[u8], at: usize, rows: &[u8]) -> Gri
 {
     let mut holders = [0u8; LEVELS];
     let mut threads = [0u8; LEVELS];
+    let mut nests = [0u16; LEVELS];
     let mut p = Place {
         at: at,
         forks: 0,
@@ -83,11 +85,23 @@ pub fn recorded(mut g: Grid, ks: &[u8], s: &[u8], at: usize, rows: &[u8]) -> Gri
         }
         let h = holders[n];
         let t = threads[n];
+        let m = nests[n];
+        let inside = holder_inside(s, i, b, h, m);
         if b == LOCK {
-            locked(&mut g, s, i, h, t);
+            locked(&mut g, h, inside, t);
         } else if b == CALL {
             called(&mut g, ks, s, rows, i, h, t);
         }
-        p = step(ks, s, p, &mut holders, &mut threads);
+        p = step(
+            ks,
+            s,
+            p,
+            inside,
+            t,
+            m,
+            &mut holders,
+            &mut threads,
+            &mut nests,
+        );
     }
 }

@@ -1,8 +1,9 @@
 // The walk over a body's bytes: a place, and what holds there at each open level.
 ghost use mathlib.Core.Path.{_≡_};
-ghost use Prim.Native.Nat.{_≤_};
-ghost use Rattle.table.specs.Constants.{most-open};
-ghost use Rattle.pairs.specs.Walks.{walkOf, pastItem, topBy, enteredWalk, nextWalk};
+ghost use Prim.Native.Nat.{_≤_, _<_};
+ghost use Rattle.table.specs.Constants.{most-names, most-open};
+ghost use Rattle.pairs.specs.Walks.{walkOf, inNest, withName, holderUnder, pastItem, topBy};
+ghost use Rattle.pairs.specs.Walks.{enteredWalk, nextWalk, holderInside, LockReady, Given};
 ghost use Rattle.pairs.specs.Walks.{IsOver, Passable, LevelReady, Ready};
 use table::limits::CALL;
 use table::limits::CHOICE;
@@ -60,22 +61,61 @@ pub fn level(b: u8, top: usize) -> usize
     }
 }
 
-// The place after `forks` FORK, with the holder and the thread of its innermost level written to the two arrays.
+// Whether the name x is in the nest, a mask of names.
+fn in_nest(nest: u16, x: u8) -> bool
+    requires { ⌜ x < most-names ⌝ }
+    ensures { λ r. ⌜ r ≡ inNest nest x ⌝ }
+{
+    (nest >> (x as u16)) % 2 == 1
+}
+
+// The nest with the name x.
+fn with_name(nest: u16, x: u8) -> u16
+    requires { ⌜ x < most-names ⌝ }
+    ensures { λ r. ⌜ r ≡ withName nest x ⌝ }
+{
+    nest | (1u16 << (x as u16))
+}
+
+// The holder inside LOCK x, where h is the one outside it: the same, where the name is in the nest already.
+fn holder_under(nest: u16, h: u8, x: u8) -> u8
+    requires { ⌜ x < most-names ⌝ }
+    ensures { λ r. ⌜ r ≡ holderUnder nest h x ⌝ }
+{
+    if in_nest(nest, x) { h } else { x }
+}
+
+// The holder inside the item with code b at `at`, a FORK excepted, where h is the one outside it.
+pub fn holder_inside(s: &[u8], at: usize, b: u8, h: u8, nest: u16) -> u8
+    requires { ⌜ LockReady (now s) at b ⌝ }
+    ensures { λ r. ⌜ r ≡ holderInside (now (s .entry)) at b h nest ⌝ }
+{
+    if b == LOCK {
+        holder_under(nest, h, s[at + 1])
+    } else {
+        h
+    }
+}
+
+// The place after `forks` FORK, with the holder, the thread and the nest of its innermost level written to the arrays.
 fn entered(
     p: Place,
     forks: u8,
     holder: u8,
     thread: u8,
+    nest: u16,
     holders: &mut [u8; LEVELS],
     threads: &mut [u8; LEVELS],
+    nests: &mut [u16; LEVELS],
 ) -> Place
     requires { ⌜ p .top ≤ most-open ⌝ }
-    ensures { λ r. ⌜ walkOf r (now (holders .exit)) (now (threads .exit))
-        ≡ enteredWalk (walkOf p (now (holders .entry)) (now (threads .entry))) forks holder thread ⌝ }
+    ensures { λ r. ⌜ walkOf r (now (holders .exit)) (now (threads .exit)) (now (nests .exit)) ≡ enteredWalk
+        (walkOf p (now (holders .entry)) (now (threads .entry)) (now (nests .entry))) forks holder thread nest ⌝ }
 {
     let n = p.top;
     holders[n] = holder;
     threads[n] = thread;
+    nests[n] = nest;
     Place {
         at: p.at,
         forks: forks,
@@ -83,34 +123,41 @@ fn entered(
     }
 }
 
-// The place past the item at p. The arrays have the holder (a name or NOTHING) and the thread (a label number) of each
-// open level: where the item opens one, its entries are written.
+// The place past the item at p, where the holder inside the item, as of `holder_inside`, the thread and the nest are
+// given. The arrays have the holder (a name or NOTHING), the thread (a label number) and the nest (a mask of names) of
+// each open level: where the item opens one, its entries are written.
 pub fn step(
     ks: &[u8],
     s: &[u8],
     p: Place,
+    inside: u8,
+    thread: u8,
+    nest: u16,
     holders: &mut [u8; LEVELS],
     threads: &mut [u8; LEVELS],
+    nests: &mut [u16; LEVELS],
 ) -> Place
-    requires { ⌜ Ready (now ks) (now s) (walkOf p (now holders) (now threads)) ⌝ }
-    ensures { λ r. ⌜ walkOf r (now (holders .exit)) (now (threads .exit))
-        ≡ nextWalk (now (ks .entry)) (now (s .entry)) (walkOf p (now (holders .entry)) (now (threads .entry))) ⌝ }
+    requires { ⌜ Ready (now ks) (now s) (walkOf p (now holders) (now threads) (now nests))
+        × Given (now s) (walkOf p (now holders) (now threads) (now nests)) inside thread nest ⌝ }
+    ensures { λ r. ⌜ walkOf r (now (holders .exit)) (now (threads .exit)) (now (nests .exit)) ≡ nextWalk
+        (now (ks .entry)) (now (s .entry))
+        (walkOf p (now (holders .entry)) (now (threads .entry)) (now (nests .entry))) ⌝ }
 {
     let i = p.at;
-    let n = p.top;
     let b = s[i];
     let forks = p.forks;
-    let h = holders[n];
-    let t = threads[n];
     let q = Place {
         at: past(ks, s, i),
         forks: forks,
-        top: level(b, n),
+        top: level(b, p.top),
     };
     match b {
-        LOCK => entered(q, forks, s[i + 1], t, holders, threads),
-        FORK => entered(q, forks + 1, NOTHING, forks + 1, holders, threads),
-        CHOICE => entered(q, forks, h, t, holders, threads),
+        LOCK => {
+            let m = with_name(nest, s[i + 1]);
+            entered(q, forks, inside, thread, m, holders, threads, nests)
+        }
+        FORK => entered(q, forks + 1, NOTHING, forks + 1, 0, holders, threads, nests),
+        CHOICE => entered(q, forks, inside, thread, nest, holders, threads, nests),
         _ => q,
     }
 }

@@ -1,2 +1,3 @@
 -- What the definitions mean, beside the functions.
 mod Readings
+mod Nests

@@ -14,7 +14,7 @@ use Rattle.rules.specs.laws.Tests.{both, equal}
 use Rattle.rules.specs.laws.Certificate.{has-pair, pair-passes, OneLabel, one-label}
 use Rattle.rules.specs.laws.Judge.{is-clear, is-ring-at, ring-passes}
 
-abbrev routine : ℕ → Code → Routine
+abbrev pub routine : ℕ → Code → Routine
 routine k c = record { count = k; code = c }
 
 -- a fork locks 1 then 2, the main thread 2 then 1
@@ -30,14 +30,14 @@ unfolding ℕ-discrete
 ring-b = is-ring-at table-b 0 1 tt
 
 -- table g, the philosophers, has the verdict clear
-abbrev table-g : Program
+abbrev pub table-g : Program
 table-g =
     routine 0 (new 1 (call 1 (1 ∷ 1 ∷ []) end))
     ∷ routine 2
     (choice (lock 2 (lock 1 end end) end) (new 3 (fork 1 (lock 1 (lock 3 end end) end) (call 1 (3 ∷ 2 ∷ []) end))) end)
     ∷ []
 
-clear-g : Clear table-g
+pub clear-g : Clear table-g
 unfolding ℕ-discrete
 clear-g = is-clear table-g tt
 

@@ -1,11 +1,14 @@
 -- Pairs, rows and rings: the least set that the rules give, a rule a line (docs/FORMAT.md has them in words).
 use mathlib.Core.Path.{_≡_}
 use mathlib.Core.Logic.{_≢_, _⊎_}
-use mathlib.Core.List.{List}
+use mathlib.Core.Bool.{cond}
+use mathlib.Core.List.{List, [], _∷_}
 use mathlib.Core.Option.{Option, none, some}
 use Prim.Native.Nat.{ℕ, zero, suc, _≤_}
 use lib.ListN.{getElem?}
 use Rattle.table.specs.Program.{Code, new, lock, fork, choice, call, Program, params, body}
+use Rattle.table.specs.WellFormed.{In}
+use Rattle.table.specs.Check.{in?}
 use Rattle.rules.specs.Label.{Label, own, forked, several, combine, cut, placed}
 
 -- the pairs that are not dropped: those with two different ends, and those labelled several
@@ -17,47 +20,70 @@ abbrev pub renamed : Option ℕ → List ℕ → ℕ → Option ℕ
 renamed h xs zero = h
 renamed h xs (suc i) = getElem? xs i
 
--- Recorded P c θ h a b l: the code c, at a place of thread θ and with the holder h (none for nothing), records the pair
--- (a, b) labelled l. Model P r a b l: the pair is among those worked out in the body of routine r.
+-- a place in a body: its thread, its holder h (none for nothing), and its nest, the names of the LOCK blocks of that
+-- thread that are open there in this body
+pub record Place : Type 0 where
+  pub thread : Label
+  pub holder : Option ℕ
+  pub nest : List ℕ
+
+-- the head of a body: the running thread, with name 0 as its holder and an empty nest
+abbrev pub atHead : Place
+atHead = record { thread = own; holder = some 0; nest = [] }
+
+-- the place with x as its holder, and x put into its nest
+abbrev pub nested : ℕ → Place → Place
+nested x w = record { thread = w .thread; holder = some x; nest = x ∷ w .nest }
+
+-- the head of the block of LOCK x: the place outside where x is in its nest already, else x is the holder and nested
+abbrev pub underLock : ℕ → Place → Place
+underLock x w = cond (in? x (w .nest)) w (nested x w)
+
+-- the head of the block of FORK i: that thread, with nothing as its holder and an empty nest, whatever is held outside
+abbrev pub underFork : ℕ → Place
+underFork i = record { thread = forked i; holder = none; nest = [] }
+
+-- Recorded P c w a b l: the code c, at the place w, records the pair (a, b) labelled l. A LOCK on a name of the nest
+-- records nothing itself (at-lock). Model P r a b l: the pair is among those worked out in the body of routine r.
 mutual
-  pub data Recorded (P : Program) : Code → Label → Option ℕ → ℕ → ℕ → Label → Type 0 where
-    in-new : {x : ℕ} {c : Code} {θ : Label} {h : Option ℕ} {a b : ℕ} {l : Label}
-        → Recorded P c θ h a b l
-        → Recorded P (new x c) θ h a b l
-    at-lock : {x : ℕ} {c d : Code} {θ : Label} {h : Option ℕ} {a b : ℕ} {l : Label}
-        → h ≡ some a → b ≡ x → l ≡ θ
-        → Recorded P (lock x c d) θ h a b l
-    in-lock : {x : ℕ} {c d : Code} {θ : Label} {h : Option ℕ} {a b : ℕ} {l : Label}
-        → Recorded P c θ (some x) a b l
-        → Recorded P (lock x c d) θ h a b l
-    after-lock : {x : ℕ} {c d : Code} {θ : Label} {h : Option ℕ} {a b : ℕ} {l : Label}
-        → Recorded P d θ h a b l
-        → Recorded P (lock x c d) θ h a b l
-    in-fork : {i : ℕ} {c d : Code} {θ : Label} {h : Option ℕ} {a b : ℕ} {l : Label}
-        → Recorded P c (forked i) none a b l
-        → Recorded P (fork i c d) θ h a b l
-    after-fork : {i : ℕ} {c d : Code} {θ : Label} {h : Option ℕ} {a b : ℕ} {l : Label}
-        → Recorded P d θ h a b l
-        → Recorded P (fork i c d) θ h a b l
-    in-first : {u v c : Code} {θ : Label} {h : Option ℕ} {a b : ℕ} {l : Label}
-        → Recorded P u θ h a b l
-        → Recorded P (choice u v c) θ h a b l
-    in-second : {u v c : Code} {θ : Label} {h : Option ℕ} {a b : ℕ} {l : Label}
-        → Recorded P v θ h a b l
-        → Recorded P (choice u v c) θ h a b l
-    after-choice : {u v c : Code} {θ : Label} {h : Option ℕ} {a b : ℕ} {l : Label}
-        → Recorded P c θ h a b l
-        → Recorded P (choice u v c) θ h a b l
-    at-call : {r : ℕ} {xs : List ℕ} {c : Code} {θ : Label} {h : Option ℕ} {a b a₀ b₀ : ℕ} {l m : Label}
+  pub data Recorded (P : Program) : Code → Place → ℕ → ℕ → Label → Type 0 where
+    in-new : {x : ℕ} {c : Code} {w : Place} {a b : ℕ} {l : Label}
+        → Recorded P c w a b l
+        → Recorded P (new x c) w a b l
+    at-lock : {x : ℕ} {c d : Code} {w : Place} {a b : ℕ} {l : Label}
+        → ¬ In x (w .nest) → w .holder ≡ some a → b ≡ x → l ≡ w .thread
+        → Recorded P (lock x c d) w a b l
+    in-lock : {x : ℕ} {c d : Code} {w : Place} {a b : ℕ} {l : Label}
+        → Recorded P c (underLock x w) a b l
+        → Recorded P (lock x c d) w a b l
+    after-lock : {x : ℕ} {c d : Code} {w : Place} {a b : ℕ} {l : Label}
+        → Recorded P d w a b l
+        → Recorded P (lock x c d) w a b l
+    in-fork : {i : ℕ} {c d : Code} {w : Place} {a b : ℕ} {l : Label}
+        → Recorded P c (underFork i) a b l
+        → Recorded P (fork i c d) w a b l
+    after-fork : {i : ℕ} {c d : Code} {w : Place} {a b : ℕ} {l : Label}
+        → Recorded P d w a b l
+        → Recorded P (fork i c d) w a b l
+    in-first : {u v c : Code} {w : Place} {a b : ℕ} {l : Label}
+        → Recorded P u w a b l
+        → Recorded P (choice u v c) w a b l
+    in-second : {u v c : Code} {w : Place} {a b : ℕ} {l : Label}
+        → Recorded P v w a b l
+        → Recorded P (choice u v c) w a b l
+    after-choice : {u v c : Code} {w : Place} {a b : ℕ} {l : Label}
+        → Recorded P c w a b l
+        → Recorded P (choice u v c) w a b l
+    at-call : {r : ℕ} {xs : List ℕ} {c : Code} {w : Place} {a b a₀ b₀ : ℕ} {l m : Label}
         → Model P r a₀ b₀ m → a₀ ≤ params P r → b₀ ≤ params P r → a₀ ≢ b₀
-        → renamed h xs a₀ ≡ some a → renamed h xs b₀ ≡ some b → l ≡ placed θ (cut m)
-        → Recorded P (call r xs c) θ h a b l
-    after-call : {r : ℕ} {xs : List ℕ} {c : Code} {θ : Label} {h : Option ℕ} {a b : ℕ} {l : Label}
-        → Recorded P c θ h a b l
-        → Recorded P (call r xs c) θ h a b l
+        → renamed (w .holder) xs a₀ ≡ some a → renamed (w .holder) xs b₀ ≡ some b → l ≡ placed (w .thread) (cut m)
+        → Recorded P (call r xs c) w a b l
+    after-call : {r : ℕ} {xs : List ℕ} {c : Code} {w : Place} {a b : ℕ} {l : Label}
+        → Recorded P c w a b l
+        → Recorded P (call r xs c) w a b l
 
   pub data Model (P : Program) : ℕ → ℕ → ℕ → Label → Type 0 where
-    records : {r a b : ℕ} {l : Label} → Recorded P (body P r) own (some 0) a b l → Kept a b l → Model P r a b l
+    records : {r a b : ℕ} {l : Label} → Recorded P (body P r) atHead a b l → Kept a b l → Model P r a b l
     follows : {r a b c : ℕ} {l m n : Label}
         → Model P r a b l → Model P r b c m → n ≡ combine l m → Kept a c n
         → Model P r a c n

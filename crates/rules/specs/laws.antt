@@ -5,6 +5,8 @@ pub mod Closure
 pub mod Verdict
 pub mod Tests
 pub mod Lists
+pub mod Nest
+pub mod Before101
 pub mod Table
 pub mod Number
 pub mod Certificate

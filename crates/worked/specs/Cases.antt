@@ -141,4 +141,4 @@ cases = gets table-a Clear [] []
     ∷ gets table-h (ring 0 1) (pair 1 0 1 1 ∷ pair 1 0 2 5 ∷ pair 1 1 2 5 ∷ []) (0 ∷ [])
     ∷ gets table-i-called (ring 0 1) (pair 1 1 2 2 ∷ pair 1 1 3 2 ∷ pair 1 2 3 2 ∷ []) (0 ∷ [])
     ∷ gets table-i-written Clear [] []
-    ∷ gets table-j (ring 0 1) [] (0 ∷ []) ∷ []
+    ∷ gets table-j Clear [] [] ∷ []

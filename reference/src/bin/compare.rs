@@ -2,7 +2,9 @@
 //!
 //! `compare [SEED [COUNT]]` goes over the worked cases, a table for each rule, the
 //! boundary tables, some plain runs of bytes and COUNT random tables of SEED. It
-//! prints one summary line, or the first difference and exits with 1.
+//! prints one summary line, or the first difference and exits with 1. It also exits
+//! with 1 where COUNT is 1,000 or more and none of the random tables would have come
+//! out otherwise before request #101.
 //!
 //! Needs the feature `archive`.
 
@@ -18,6 +20,8 @@ use reference::{check_number, hex};
 
 const DEFAULT_SEED: u64 = 1;
 const DEFAULT_COUNT: u64 = 100_000;
+/// Of so many random tables, some come out otherwise by request #101.
+const ENOUGH: u64 = 1_000;
 
 /// What has been compared so far.
 #[derive(Default)]
@@ -117,6 +121,42 @@ mod analysis {
     }
 }
 
+/// What request #101 changes.
+mod nests {
+    use reference::limits::ROW_BYTES;
+    use reference::model::locks_passed_over;
+    use reference::{analyse_by, table, Answer, Rules};
+
+    #[derive(Default)]
+    pub struct Tally {
+        /// Tables with a LOCK that is passed over.
+        pub passed_over: u64,
+        /// Tables whose answer or model was another before the request.
+        pub changed: u64,
+    }
+
+    /// Answer and model of an accepted table.
+    fn outcome(rules: Rules, bytes: &[u8], routines: usize) -> (Answer, Vec<u8>) {
+        let mut model = vec![0; ROW_BYTES * routines];
+        (analyse_by(rules, bytes, &mut model), model)
+    }
+
+    /// Counts one table, which may be a refused one.
+    pub fn count(tally: &mut Tally, bytes: &[u8]) {
+        let Ok(table) = table::read(bytes) else {
+            return;
+        };
+        // Without such a LOCK the rules are the same.
+        if locks_passed_over(&table) == 0 {
+            return;
+        }
+        tally.passed_over += 1;
+        let [now, before] = [Rules::InForce, Rules::Before101]
+            .map(|rules| outcome(rules, bytes, table.routines.len()));
+        tally.changed += u64::from(now != before);
+    }
+}
+
 /// Runs of bytes without a plan: none, each single byte, and 2^16 of them.
 fn plain(seed: u64) -> Vec<Vec<u8>> {
     let mut all = vec![vec![]];
@@ -170,6 +210,7 @@ fn run(seed: u64, count: u64) -> Result<String, String> {
         one(format!("plain table {index}"), table)?;
     }
     let mut kinds = BTreeMap::new();
+    let mut nests = nests::Tally::default();
     for index in 0..count {
         let (kind, table) = random(seed, index);
         one(
@@ -177,6 +218,12 @@ fn run(seed: u64, count: u64) -> Result<String, String> {
             &table,
         )?;
         *kinds.entry(kind).or_insert(0) += 1;
+        nests::count(&mut nests, &table);
+    }
+    if count >= ENOUGH && nests.changed == 0 {
+        return Err(format!(
+            "request #101 changes nothing in {count} random tables of seed {seed}"
+        ));
     }
 
     let kinds: Vec<String> = KINDS
@@ -188,7 +235,6 @@ fn run(seed: u64, count: u64) -> Result<String, String> {
         .iter()
         .map(|(number, times)| format!("{number}: {times}"))
         .collect();
-    #[allow(unused_mut)]
     let mut summary = format!(
         "no difference, seed {seed}: {} worked, {} rule, {} boundary, {} plain, {count} random ({}); accepted {}; refused {}",
         worked.len(),
@@ -206,6 +252,10 @@ fn run(seed: u64, count: u64) -> Result<String, String> {
             analysis.buffers, analysis.clear, analysis.ring, analysis.refused
         );
     }
+    summary += &format!(
+        "; of the random tables {} have a LOCK that is passed over, {} came out otherwise before request #101",
+        nests.passed_over, nests.changed
+    );
     Ok(summary)
 }
 

@@ -2,14 +2,13 @@
 -- sound rows in which each routine is up to date are the model's rows.
 use mathlib.Core.Path.{_≡_, refl, subst}
 use mathlib.Core.Logic.{_≢_, _⊎_, inl, inr, ⊎-elim}
-use mathlib.Core.Option.{Option, none, some}
 use Prim.Native.Nat.{ℕ, _<_, _≤_}
 use native.Mathlib.Decide.{decLt}
 use native.Mathlib.Omega.{arith}
 use lib.ListN.{length, List·getD-eq-default}
 use Rattle.table.specs.Program.{Code, end, new, lock, fork, choice, call, Routine, Program, empty, params, body}
-use Rattle.rules.specs.Label.{Label, own, forked, several, combine, cut}
-use Rattle.rules.specs.Model.{Kept, Model, Row, Ring}
+use Rattle.rules.specs.Label.{Label, several, combine, cut}
+use Rattle.rules.specs.Model.{Kept, Place, atHead, underLock, underFork, Model, Row, Ring}
 use Rattle.rules.specs.Verdict.{Calls}
 use Rattle.rules.specs.laws.Satisfies.{Pairs, RecordedFrom, RowOf, Satisfies}
 use Rattle.rules.specs.laws.Least.{recorded-mono, model-satisfies, model-least}
@@ -17,7 +16,7 @@ use Rattle.rules.specs.laws.Closure.{Closed, given, follows, closed-least}
 
 -- the kept pairs that a code records as a body, from the rows R
 abbrev pub KeptFrom : Pairs → Code → ℕ → ℕ → Label → Type 0
-KeptFrom R c a b l = RecordedFrom R c own (some 0) a b l × Kept a b l
+KeptFrom R c a b l = RecordedFrom R c atHead a b l × Kept a b l
 
 -- the pairs worked out in the body of routine r from the rows R
 abbrev pub Derived : Program → Pairs → Pairs
@@ -46,7 +45,7 @@ sound-step P R s r a b l w = closed-least (KeptFrom R (body P r)) (Model P r) ba
     base : (a b : ℕ) (l : Label) → KeptFrom R (body P r) a b l → Model P r a b l
     base a b l p =
         model-satisfies P .records r a b l
-        (recorded-mono R (RowOf P (Model P)) s (body P r) own (some 0) a b l (p .0)) (p .1)
+        (recorded-mono R (RowOf P (Model P)) s (body P r) atHead a b l (p .0)) (p .1)
 
 -- rows that add to sound ones a row worked out from them are sound
 pub sound-added :
@@ -61,27 +60,27 @@ sound-added P R S r s h q a b l w = ⊎-elim (λ p. s q a b l p) (λ p. rw (p .0
 -- a code that calls only routines whose rows S has as well records from S what it records from R
 pub recorded-calls :
     (R S : Pairs) (c : Code) → ((q a b : ℕ) (l : Label) → Calls c q → R q a b l → S q a b l)
-    → (θ : Label) (h : Option ℕ) (a b : ℕ) (l : Label) → RecordedFrom R c θ h a b l → RecordedFrom S c θ h a b l
-recorded-calls R S (new x c) f θ h a b l w = recorded-calls R S c f θ h a b l w
-recorded-calls R S (lock x c d) f θ h a b l (inl w) = inl w
-recorded-calls R S (lock x c d) f θ h a b l (inr (inl w)) =
-    inr (inl (recorded-calls R S c (λ q a b l k. f q a b l (inl k)) θ (some x) a b l w))
-recorded-calls R S (lock x c d) f θ h a b l (inr (inr w)) =
-    inr (inr (recorded-calls R S d (λ q a b l k. f q a b l (inr k)) θ h a b l w))
-recorded-calls R S (fork i c d) f θ h a b l (inl w) =
-    inl (recorded-calls R S c (λ q a b l k. f q a b l (inl k)) (forked i) none a b l w)
-recorded-calls R S (fork i c d) f θ h a b l (inr w) =
-    inr (recorded-calls R S d (λ q a b l k. f q a b l (inr k)) θ h a b l w)
-recorded-calls R S (choice u v c) f θ h a b l (inl w) =
-    inl (recorded-calls R S u (λ q a b l k. f q a b l (inl k)) θ h a b l w)
-recorded-calls R S (choice u v c) f θ h a b l (inr (inl w)) =
-    inr (inl (recorded-calls R S v (λ q a b l k. f q a b l (inr (inl k))) θ h a b l w))
-recorded-calls R S (choice u v c) f θ h a b l (inr (inr w)) =
-    inr (inr (recorded-calls R S c (λ q a b l k. f q a b l (inr (inr k))) θ h a b l w))
-recorded-calls R S (call q xs c) f θ h a b l (inl w) =
+    → (π : Place) (a b : ℕ) (l : Label) → RecordedFrom R c π a b l → RecordedFrom S c π a b l
+recorded-calls R S (new x c) f π a b l w = recorded-calls R S c f π a b l w
+recorded-calls R S (lock x c d) f π a b l (inl w) = inl w
+recorded-calls R S (lock x c d) f π a b l (inr (inl w)) =
+    inr (inl (recorded-calls R S c (λ q a b l k. f q a b l (inl k)) (underLock x π) a b l w))
+recorded-calls R S (lock x c d) f π a b l (inr (inr w)) =
+    inr (inr (recorded-calls R S d (λ q a b l k. f q a b l (inr k)) π a b l w))
+recorded-calls R S (fork i c d) f π a b l (inl w) =
+    inl (recorded-calls R S c (λ q a b l k. f q a b l (inl k)) (underFork i) a b l w)
+recorded-calls R S (fork i c d) f π a b l (inr w) =
+    inr (recorded-calls R S d (λ q a b l k. f q a b l (inr k)) π a b l w)
+recorded-calls R S (choice u v c) f π a b l (inl w) =
+    inl (recorded-calls R S u (λ q a b l k. f q a b l (inl k)) π a b l w)
+recorded-calls R S (choice u v c) f π a b l (inr (inl w)) =
+    inr (inl (recorded-calls R S v (λ q a b l k. f q a b l (inr (inl k))) π a b l w))
+recorded-calls R S (choice u v c) f π a b l (inr (inr w)) =
+    inr (inr (recorded-calls R S c (λ q a b l k. f q a b l (inr (inr k))) π a b l w))
+recorded-calls R S (call q xs c) f π a b l (inl w) =
     inl (w .0, w .1, w .2, f q (w .0) (w .1) (w .2) (inl refl) (w .3), w .4, w .5, w .6)
-recorded-calls R S (call q xs c) f θ h a b l (inr w) =
-    inr (recorded-calls R S c (λ q a b l k. f q a b l (inr k)) θ h a b l w)
+recorded-calls R S (call q xs c) f π a b l (inr w) =
+    inr (recorded-calls R S c (λ q a b l k. f q a b l (inr k)) π a b l w)
 
 -- what is worked out in a body depends on the rows of the routines that it calls alone
 pub calls-only :
@@ -90,7 +89,7 @@ pub calls-only :
     → (a b : ℕ) (l : Label) → Derived P R r a b l → Derived P S r a b l
 calls-only P R S r f a b l w =
     closed-mono (KeptFrom R (body P r)) (KeptFrom S (body P r))
-    (λ a b l p. (recorded-calls R S (body P r) f own (some 0) a b l (p .0), p .1)) w
+    (λ a b l p. (recorded-calls R S (body P r) f atHead a b l (p .0), p .1)) w
 
 -- a routine stays up to date while its row keeps its pairs and the rows that it calls get none
 pub up-to-date-kept :
@@ -128,7 +127,7 @@ module _ (P : Program) (R : Pairs) (current : (r : ℕ) → r < length P → UpT
   derived-satisfies : Satisfies P (Derived P R)
   derived-satisfies = record {
     records = λ r a b l w k.
-        given (recorded-mono (RowOf P (Derived P R)) R row-derived (body P r) own (some 0) a b l w, k);
+        given (recorded-mono (RowOf P (Derived P R)) R row-derived (body P r) atHead a b l w, k);
     follows = λ r a b c l m p q k. follows p q refl k;
   }
 

@@ -11,10 +11,13 @@ use lib.Dec.{T, eqb, leb}
 use lib.ListN.{length, List·getD-eq-default}
 use Rattle.table.specs.Program.{Code, end, new, lock, fork, choice, call, Routine, Program, empty, params, body}
 use Rattle.table.specs.WellFormed.{In}
+use Rattle.table.specs.Check.{in?}
 use Rattle.rules.specs.Label.{Label, own, forked, unknown, several, combine, cut, placed}
-use Rattle.rules.specs.Model.{Kept, renamed, Model, follows, Row}
+use Rattle.rules.specs.Model.{Kept, renamed, Place, atHead, underLock, underFork, Recorded, Model, follows, Row}
 use Rattle.rules.specs.laws.Satisfies.{Pairs, RecordedFrom, RowOf, Satisfies}
-use Rattle.rules.specs.laws.Least.{recorded-mono, row-mono, model-satisfies, model-least}
+use Rattle.rules.specs.laws.Least.{recorded-mono, row-mono, recorded-of-rows, model-satisfies}
+use Rattle.rules.specs.laws.Least.{recorded-least, model-least}
+use Rattle.rules.specs.laws.Nest.{is-in}
 use Rattle.rules.specs.laws.Tests.{Decides, both, either, negated, implied, equal, at-most, halves}
 use Rattle.rules.specs.laws.Lists.{Found, changed, nowhere, alone, appended, only, guarded, gather, gathered}
 use Rattle.rules.specs.laws.Lists.{upTo, in-up-to, every?, every-at, member?, saturate, closed?}
@@ -108,13 +111,15 @@ taken P q xs θ h (entry s a b m) =
     let p = joined (renamed h xs a) (renamed h xs b) (placed θ (cut m)) in only (eqb s q && ends? P q a b) p
 
 -- the pairs that the code records, where the entries give the rows of the routines called
-abbrev pub recordsOf : Program → List Entry → Code → Label → Option ℕ → List Pair
-recordsOf P es end θ h = []
-recordsOf P es (new x c) θ h = recordsOf P es c θ h
-recordsOf P es (lock x c d) θ h = joined h (some x) θ ++ (recordsOf P es c θ (some x) ++ recordsOf P es d θ h)
-recordsOf P es (fork i c d) θ h = recordsOf P es c (forked i) none ++ recordsOf P es d θ h
-recordsOf P es (choice u v c) θ h = recordsOf P es u θ h ++ (recordsOf P es v θ h ++ recordsOf P es c θ h)
-recordsOf P es (call q xs c) θ h = gather (taken P q xs θ h) es ++ recordsOf P es c θ h
+abbrev pub recordsOf : Program → List Entry → Code → Place → List Pair
+recordsOf P es end w = []
+recordsOf P es (new x c) w = recordsOf P es c w
+recordsOf P es (lock x c d) w =
+    only (not (in? x (w .nest))) (joined (w .holder) (some x) (w .thread))
+    ++ (recordsOf P es c (underLock x w) ++ recordsOf P es d w)
+recordsOf P es (fork i c d) w = recordsOf P es c (underFork i) ++ recordsOf P es d w
+recordsOf P es (choice u v c) w = recordsOf P es u w ++ (recordsOf P es v w ++ recordsOf P es c w)
+recordsOf P es (call q xs c) w = gather (taken P q xs (w .thread) (w .holder)) es ++ recordsOf P es c w
 
 module _ (P : Program) (es : List Entry) where
   -- what an entry must be to give the pair at a call
@@ -154,18 +159,19 @@ module _ (P : Program) (es : List Entry) where
 
   -- the list of recorded pairs has what the code records from the rows that the entries give, and nothing else
   pub is-recorded :
-      (c : Code) (θ : Label) (h : Option ℕ) (a b : ℕ) (l : Label)
-      → Found (pair a b l) (recordsOf P es c θ h) (RecordedFrom (RowOf P (Listed es)) c θ h a b l)
-  is-recorded end θ h a b l = nowhere (pair a b l)
-  is-recorded (new x c) θ h a b l = is-recorded c θ h a b l
-  is-recorded (lock x c d) θ h a b l =
+      (c : Code) (w : Place) (a b : ℕ) (l : Label)
+      → Found (pair a b l) (recordsOf P es c w) (RecordedFrom (RowOf P (Listed es)) c w a b l)
+  is-recorded end w a b l = nowhere (pair a b l)
+  is-recorded (new x c) w a b l = is-recorded c w a b l
+  is-recorded (lock x c d) w a b l =
       appended
-      (changed (λ w. (w .0, cc (w .1), w .2)) (λ w. (w .0, ap some (sym (w .1)), w .2)) (is-joined h (some x) θ a b l))
-      (appended (is-recorded c θ (some x) a b l) (is-recorded d θ h a b l))
-  is-recorded (fork i c d) θ h a b l = appended (is-recorded c (forked i) none a b l) (is-recorded d θ h a b l)
-  is-recorded (choice u v c) θ h a b l =
-      appended (is-recorded u θ h a b l) (appended (is-recorded v θ h a b l) (is-recorded c θ h a b l))
-  is-recorded (call q xs c) θ h a b l = appended (is-called q xs θ h a b l) (is-recorded c θ h a b l)
+      (changed (λ q. (q .0, q .1 .0, cc (q .1 .1), q .1 .2)) (λ q. (q .0, (q .1, ap some (sym (q .2)), q .3)))
+      (guarded (negated (is-in x (w .nest))) (is-joined (w .holder) (some x) (w .thread) a b l)))
+      (appended (is-recorded c (underLock x w) a b l) (is-recorded d w a b l))
+  is-recorded (fork i c d) w a b l = appended (is-recorded c (underFork i) a b l) (is-recorded d w a b l)
+  is-recorded (choice u v c) w a b l =
+      appended (is-recorded u w a b l) (appended (is-recorded v w a b l) (is-recorded c w a b l))
+  is-recorded (call q xs c) w a b l = appended (is-called q xs (w .thread) (w .holder) a b l) (is-recorded c w a b l)
 
 -- the pair as an entry of routine r, where it is kept
 abbrev pub ofRoutine : ℕ → Pair → List Entry
@@ -178,7 +184,7 @@ following (entry r a b l) (entry s c d m) = let e = ofRoutine r (pair a d (combi
 -- what the rules give from the entries: the pairs that each body records, and those that follow from two entries
 abbrev pub step : Program → List Entry → List Entry
 step P es =
-    gather (λ r. gather (ofRoutine r) (recordsOf P es (body P r) own (some 0))) (upTo (length P))
+    gather (λ r. gather (ofRoutine r) (recordsOf P es (body P r) atHead)) (upTo (length P))
     ++ gather (λ e. gather (following e) es) es
 
 -- the entry is of the model
@@ -200,31 +206,34 @@ is-following : (e f g : Entry) → Found e (following f g) (Follows e f g)
 is-following e (entry r a b l) (entry s c d m) =
     guarded (both (equal b c) (equal r s)) (is-of r e (pair a d (combine l m)))
 
+-- where the entries are of the model, so are their rows
+rows-of-model :
+    (P : Program) (es : List Entry) → ((e : Entry) → In e es → InModel P e)
+    → (r a b : ℕ) (l : Label) → RowOf P (Listed es) r a b l → RowOf P (Model P) r a b l
+rows-of-model P es all = row-mono P (Listed es) (Model P) (λ r a b l j. all (entry r a b l) j)
+
 module _ (P : Program) (es : List Entry) where
   -- the entry e is a pair that the body of a routine records, or follows from two entries
   abbrev Given : Entry → Type 0
   Given e =
-      ((r : ℕ) × In r (upTo (length P)) × ((p : Pair) × In p (recordsOf P es (body P r) own (some 0)) × Of r e p))
+      ((r : ℕ) × In r (upTo (length P)) × ((p : Pair) × In p (recordsOf P es (body P r) atHead) × Of r e p))
       ⊎ ((f : Entry) × In f es × ((g : Entry) × In g es × Follows e f g))
 
   is-given : (e : Entry) → Found e (step P es) (Given e)
   is-given e =
-      appended (gathered (upTo (length P)) (λ r. gathered (recordsOf P es (body P r) own (some 0)) (is-of r e)))
+      appended (gathered (upTo (length P)) (λ r. gathered (recordsOf P es (body P r) atHead) (is-of r e)))
       (gathered es (λ f. gathered es (is-following e f)))
 
   -- the step leads from entries of the model to entries of the model
   step-sound : ((e : Entry) → In e es → InModel P e) → (e : Entry) → In e (step P es) → InModel P e
   step-sound all e i = go (is-given e .fact i)
     where
-      rows : (r a b : ℕ) (l : Label) → RowOf P (Listed es) r a b l → RowOf P (Model P) r a b l
-      rows = row-mono P (Listed es) (Model P) (λ r a b l j. all (entry r a b l) j)
-
-      recorded : (r : ℕ) (p : Pair) → In p (recordsOf P es (body P r) own (some 0)) → Of r e p → InModel P e
+      recorded : (r : ℕ) (p : Pair) → In p (recordsOf P es (body P r) atHead) → Of r e p → InModel P e
       recorded r (pair a b l) j w =
           rw (w .1)
           (model-satisfies P .records r a b l
-          (recorded-mono (RowOf P (Listed es)) (RowOf P (Model P)) rows (body P r) own (some 0) a b l
-          (is-recorded P es (body P r) own (some 0) a b l .fact j))
+          (recorded-mono (RowOf P (Listed es)) (RowOf P (Model P)) (rows-of-model P es all) (body P r) atHead a b l
+          (is-recorded P es (body P r) atHead a b l .fact j))
           (w .0))
 
       follow : (f g : Entry) → InModel P f → InModel P g → Follows e f g → InModel P e
@@ -245,7 +254,7 @@ module _ (P : Program) (es : List Entry) where
 
       recorded :
           (r a b : ℕ) (l : Label)
-          → RecordedFrom (RowOf P (Listed es)) (body P r) own (some 0) a b l → Kept a b l → Listed es r a b l
+          → RecordedFrom (RowOf P (Listed es)) (body P r) atHead a b l → Kept a b l → Listed es r a b l
       recorded r a b l w k = go (decLt r (length P))
         where
           go : Dec (r < length P) → Listed es r a b l
@@ -254,10 +263,10 @@ module _ (P : Program) (es : List Entry) where
               (inl (
                 r,
                 in-up-to r (length P) lt,
-                (pair a b l, is-recorded P es (body P r) own (some 0) a b l .entry w, (k, refl)),
+                (pair a b l, is-recorded P es (body P r) atHead a b l .entry w, (k, refl)),
               ))
           go (no ge) =
-              absurd (subst (λ (q : Routine). RecordedFrom (RowOf P (Listed es)) (q .code) own (some 0) a b l)
+              absurd (subst (λ (q : Routine). RecordedFrom (RowOf P (Listed es)) (q .code) atHead a b l)
               (List·getD-eq-default P empty {n = r} (omega arith)) w)
 
       follow :
@@ -285,6 +294,24 @@ is-model P t r a b l =
       fact = in-model P (entry r a b l);
       entry = λ m. model-least P (Listed (modelOf P)) (closed-satisfies P (modelOf P) t) m;
     }
+
+-- the pairs that the body of routine r records, as a list
+abbrev pub recordedOf : Program → ℕ → List Pair
+recordedOf P r = recordsOf P (modelOf P) (body P r) atHead
+
+-- the list has what the body records, and nothing else
+pub is-recorded-by :
+    (P : Program) → T (settled? P) → (r a b : ℕ) (l : Label)
+    → Found (pair a b l) (recordedOf P r) (Recorded P (body P r) atHead a b l)
+is-recorded-by P t r a b l =
+    changed
+    (λ q. recorded-of-rows P (body P r) atHead a b l
+    (recorded-mono (RowOf P (Listed es)) (RowOf P (Model P)) (rows-of-model P es (in-model P)) (body P r) atHead a b l q))
+    (λ q. recorded-least P (Listed es) (closed-satisfies P es t) q)
+    (is-recorded P es (body P r) atHead a b l)
+  where
+    es : List Entry
+    es = modelOf P
 
 -- the pair is of the model, by its place in the list
 abbrev pub has? : Program → ℕ → ℕ → ℕ → Label → Bool

@@ -1,10 +1,9 @@
 -- The pairs worked out in one body: what the body records, closed under combining.
 use mathlib.Core.Path.{_≡_}
-use mathlib.Core.Option.{some}
 use Prim.Native.Nat.{ℕ}
 use Rattle.table.specs.Program.{Program, body}
-use Rattle.rules.specs.Label.{Label, own, combine}
-use Rattle.rules.specs.Model.{Kept, Recorded, Model}
+use Rattle.rules.specs.Label.{Label, combine}
+use Rattle.rules.specs.Model.{Kept, atHead, Recorded, Model}
 
 -- the pairs G, and each kept pair that follows from two
 pub data Closed (G : ℕ → ℕ → Label → Type 0) : ℕ → ℕ → Label → Type 0 where
@@ -15,7 +14,7 @@ pub data Closed (G : ℕ → ℕ → Label → Type 0) : ℕ → ℕ → Label �
 
 -- the kept pairs that the body of routine r records
 abbrev pub KeptBy : Program → ℕ → ℕ → ℕ → Label → Type 0
-KeptBy P r a b l = Recorded P (body P r) own (some 0) a b l × Kept a b l
+KeptBy P r a b l = Recorded P (body P r) atHead a b l × Kept a b l
 
 -- the model of routine r is the closure of what its body records
 pub closed-of-model : {P : Program} {r a b : ℕ} {l : Label} → Model P r a b l → Closed (KeptBy P r) a b l

@@ -1,12 +1,15 @@
 -- The model is the least family of pairs that satisfies the rules.
 use mathlib.Core.Path.{refl, sym, ap, _∙_, subst}
 use mathlib.Core.Logic.{inl, inr}
-use mathlib.Core.Option.{Option, none, some}
 use Prim.Native.Nat.{ℕ}
 use Rattle.table.specs.Program.{Code, new, lock, fork, choice, call, Program, body}
-use Rattle.rules.specs.Label.{Label, own, forked, cut, placed}
+use Rattle.rules.specs.Label.{Label, cut, placed}
 use Rattle.rules.specs.Model.{
   Kept,
+  Place,
+  atHead,
+  underLock,
+  underFork,
   Recorded,
   in-new,
   at-lock,
@@ -28,20 +31,21 @@ use Rattle.rules.specs.laws.Satisfies.{Pairs, RecordedFrom, RowOf, Satis
 -- what is recorded from some rows is recorded from larger ones
 pub recorded-mono :
     (R S : Pairs) → ((r a b : ℕ) (l : Label) → R r a b l → S r a b l)
-    → (c : Code) (θ : Label) (h : Option ℕ) (a b : ℕ) (l : Label)
-    → RecordedFrom R c θ h a b l → RecordedFrom S c θ h a b l
-recorded-mono R S f (new x c) θ h a b l w = recorded-mono R S f c θ h a b l w
-recorded-mono R S f (lock x c d) θ h a b l (inl w) = inl w
-recorded-mono R S f (lock x c d) θ h a b l (inr (inl w)) = inr (inl (recorded-mono R S f c θ (some x) a b l w))
-recorded-mono R S f (lock x c d) θ h a b l (inr (inr w)) = inr (inr (recorded-mono R S f d θ h a b l w))
-recorded-mono R S f (fork i c d) θ h a b l (inl w) = inl (recorded-mono R S f c (forked i) none a b l w)
-recorded-mono R S f (fork i c d) θ h a b l (inr w) = inr (recorded-mono R S f d θ h a b l w)
-recorded-mono R S f (choice u v c) θ h a b l (inl w) = inl (recorded-mono R S f u θ h a b l w)
-recorded-mono R S f (choice u v c) θ h a b l (inr (inl w)) = inr (inl (recorded-mono R S f v θ h a b l w))
-recorded-mono R S f (choice u v c) θ h a b l (inr (inr w)) = inr (inr (recorded-mono R S f c θ h a b l w))
-recorded-mono R S f (call q xs c) θ h a b l (inl w) =
-    inl (w .0, w .1, w .2, f q (w .0) (w .1) (w .2) (w .3), w .4, w .5, w .6)
-recorded-mono R S f (call q xs c) θ h a b l (inr w) = inr (recorded-mono R S f c θ h a b l w)
+    → (c : Code) (w : Place) (a b : ℕ) (l : Label)
+    → RecordedFrom R c w a b l → RecordedFrom S c w a b l
+recorded-mono R S f (new x c) w a b l q = recorded-mono R S f c w a b l q
+recorded-mono R S f (lock x c d) w a b l (inl q) = inl q
+recorded-mono R S f (lock x c d) w a b l (inr (inl q)) =
+    inr (inl (recorded-mono R S f c (underLock x w) a b l q))
+recorded-mono R S f (lock x c d) w a b l (inr (inr q)) = inr (inr (recorded-mono R S f d w a b l q))
+recorded-mono R S f (fork i c d) w a b l (inl q) = inl (recorded-mono R S f c (underFork i) a b l q)
+recorded-mono R S f (fork i c d) w a b l (inr q) = inr (recorded-mono R S f d w a b l q)
+recorded-mono R S f (choice u v c) w a b l (inl q) = inl (recorded-mono R S f u w a b l q)
+recorded-mono R S f (choice u v c) w a b l (inr (inl q)) = inr (inl (recorded-mono R S f v w a b l q))
+recorded-mono R S f (choice u v c) w a b l (inr (inr q)) = inr (inr (recorded-mono R S f c w a b l q))
+recorded-mono R S f (call t xs c) w a b l (inl q) =
+    inl (q .0, q .1, q .2, f t (q .0) (q .1) (q .2) (q .3), q .4, q .5, q .6)
+recorded-mono R S f (call t xs c) w a b l (inr q) = inr (recorded-mono R S f c w a b l q)
 
 -- larger pairs give larger rows
 pub row-mono :
@@ -51,26 +55,28 @@ row-mono P M N f r a b l w = (w .0, f r a b (w .0) (w .1), w .2, w .3, w .4, w .
 
 -- what is recorded from the model's rows is recorded
 pub recorded-of-rows :
-    (P : Program) (c : Code) (θ : Label) (h : Option ℕ) (a b : ℕ) (l : Label)
-    → RecordedFrom (RowOf P (Model P)) c θ h a b l → Recorded P c θ h a b l
-recorded-of-rows P (new x c) θ h a b l w = in-new (recorded-of-rows P c θ h a b l w)
-recorded-of-rows P (lock x c d) θ h a b l (inl w) = at-lock (w .0) (w .1) (w .2)
-recorded-of-rows P (lock x c d) θ h a b l (inr (inl w)) = in-lock (recorded-of-rows P c θ (some x) a b l w)
-recorded-of-rows P (lock x c d) θ h a b l (inr (inr w)) = after-lock (recorded-of-rows P d θ h a b l w)
-recorded-of-rows P (fork i c d) θ h a b l (inl w) = in-fork (recorded-of-rows P c (forked i) none a b l w)
-recorded-of-rows P (fork i c d) θ h a b l (inr w) = after-fork (recorded-of-rows P d θ h a b l w)
-recorded-of-rows P (choice u v c) θ h a b l (inl w) = in-first (recorded-of-rows P u θ h a b l w)
-recorded-of-rows P (choice u v c) θ h a b l (inr (inl w)) = in-second (recorded-of-rows P v θ h a b l w)
-recorded-of-rows P (choice u v c) θ h a b l (inr (inr w)) = after-choice (recorded-of-rows P c θ h a b l w)
-recorded-of-rows P (call q xs c) θ h a b l (inl w) =
-    let row = w .3 in at-call (row .1) (row .2) (row .3) (row .4) (w .4) (w .5) (w .6 ∙ ap (placed θ) (row .5))
-recorded-of-rows P (call q xs c) θ h a b l (inr w) = after-call (recorded-of-rows P c θ h a b l w)
+    (P : Program) (c : Code) (w : Place) (a b : ℕ) (l : Label)
+    → RecordedFrom (RowOf P (Model P)) c w a b l → Recorded P c w a b l
+recorded-of-rows P (new x c) w a b l q = in-new (recorded-of-rows P c w a b l q)
+recorded-of-rows P (lock x c d) w a b l (inl q) = at-lock (q .0) (q .1) (q .2) (q .3)
+recorded-of-rows P (lock x c d) w a b l (inr (inl q)) =
+    in-lock (recorded-of-rows P c (underLock x w) a b l q)
+recorded-of-rows P (lock x c d) w a b l (inr (inr q)) = after-lock (recorded-of-rows P d w a b l q)
+recorded-of-rows P (fork i c d) w a b l (inl q) = in-fork (recorded-of-rows P c (underFork i) a b l q)
+recorded-of-rows P (fork i c d) w a b l (inr q) = after-fork (recorded-of-rows P d w a b l q)
+recorded-of-rows P (choice u v c) w a b l (inl q) = in-first (recorded-of-rows P u w a b l q)
+recorded-of-rows P (choice u v c) w a b l (inr (inl q)) = in-second (recorded-of-rows P v w a b l q)
+recorded-of-rows P (choice u v c) w a b l (inr (inr q)) = after-choice (recorded-of-rows P c w a b l q)
+recorded-of-rows P (call t xs c) w a b l (inl q) =
+    let row = q .3 in
+    at-call (row .1) (row .2) (row .3) (row .4) (q .4) (q .5) (q .6 ∙ ap (placed (w .thread)) (row .5))
+recorded-of-rows P (call t xs c) w a b l (inr q) = after-call (recorded-of-rows P c w a b l q)
 
 -- the model satisfies the rules
 pub model-satisfies : (P : Program) → Satisfies P (Model P)
 model-satisfies P =
     record {
-      records = λ r a b l w k. records (recorded-of-rows P (body P r) own (some 0) a b l w) k;
+      records = λ r a b l w k. records (recorded-of-rows P (body P r) atHead a b l w) k;
       follows = λ r a b c l m p q k. follows p q refl k;
     }
 
@@ -78,10 +84,10 @@ module _ (P : Program) (M : Pairs) (ok : Satisfies P M) where
   -- what is recorded is recorded from the rows of pairs that satisfy the rules, and those pairs have the whole model
   mutual
     pub recorded-least :
-        {c : Code} {θ : Label} {h : Option ℕ} {a b : ℕ} {l : Label}
-        → Recorded P c θ h a b l → RecordedFrom (RowOf P M) c θ h a b l
+        {c : Code} {w : Place} {a b : ℕ} {l : Label}
+        → Recorded P c w a b l → RecordedFrom (RowOf P M) c w a b l
     recorded-least (in-new w) = recorded-least w
-    recorded-least (at-lock p q e) = inl (p, q, e)
+    recorded-least (at-lock n p q e) = inl (n, p, q, e)
     recorded-least (in-lock w) = inr (inl (recorded-least w))
     recorded-least (after-lock w) = inr (inr (recorded-least w))
     recorded-least (in-fork w) = inl (recorded-least w)
@@ -100,6 +106,6 @@ module _ (P : Program) (M : Pairs) (ok : Satisfies P M) where
 
 -- what is recorded is recorded from the model's rows
 pub rows-of-recorded :
-    {P : Program} {c : Code} {θ : Label} {h : Option ℕ} {a b : ℕ} {l : Label}
-    → Recorded P c θ h a b l → RecordedFrom (RowOf P (Model P)) c θ h a b l
+    {P : Program} {c : Code} {w : Place} {a b : ℕ} {l : Label}
+    → Recorded P c w a b l → RecordedFrom (RowOf P (Model P)) c w a b l
 rows-of-recorded {P} w = recorded-least P (Model P) (model-satisfies P) w

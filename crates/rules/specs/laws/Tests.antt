@@ -58,3 +58,11 @@ itself b = record { fact = λ t. t; test = λ t. t }
 
 pub halves : (a b : Bool) → T (a && b) → T a × T b
 halves a b t = both (itself a) (itself b) .fact t
+
+-- the fact by its test
+pub decided : {b : Bool} {Q : Type 0} → Decides b Q → Dec Q
+decided {b} {Q} d = go b (d .fact) (d .test)
+  where
+    go : (c : Bool) → (T c → Q) → (Q → T c) → Dec Q
+    go true f g = yes (f tt)
+    go false f g = no (λ q. g q)

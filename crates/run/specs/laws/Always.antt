@@ -2,7 +2,6 @@
 use mathlib.Core.Path.{_≡_, refl, sym, ap, _∙_, subst, fun-ext}
 use mathlib.Core.Logic.{inl, inr}
 use mathlib.Core.List.{List, [], _∷_, _++_, append-nil}
-use mathlib.Core.Option.{some}
 use Prim.Native.Nat.{ℕ, zero, suc, _<_}
 use native.Mathlib.Omega.{arith}
 use native.Mathlib.Nat.{not-suc-le-zero}
@@ -12,8 +11,7 @@ use lib.Seq.{getD-set-same, getD-set-other, getD-append-seam}
 use Rattle.table.specs.Program.{Code, end, new, lock, fork, choice, call, Program, params, body, names}
 use Rattle.table.specs.WellFormed.{onces, In}
 use Rattle.table.specs.WellFormed.{makes, starts, WellFormed}
-use Rattle.rules.specs.Label.{own}
-use Rattle.rules.specs.Model.{records}
+use Rattle.rules.specs.Model.{atHead, records}
 use Rattle.rules.specs.Verdict.{first as reached-first, then}
 use Rattle.run.specs.Run.{Env, bind, held, Frame, frame, Thread, ended, at, State, thread, start, put}
 use Rattle.run.specs.Run.{Side, first, second, step, Turn, turn, run, taken?}
@@ -180,14 +178,14 @@ module _ (P : Program) where
 
     start-here : Here P nothing 0 root (λ x. 0) (body P 0) []
     start-here = record {
-      label = own;
-      holder = some 0;
+      place = atHead;
       scope = names (params P 0);
       by = refl;
       inside = λ a b l w k. records w k;
       scoped = wf .scoped 0 (wf .some-routine);
       stands = λ x i. absurd (rw (wf .main) at i);
-      over = λ u q. absurd (let z : _≡_ {A = ℕ} 0 1 = cc in omega arith);
+      kept = λ x i. absurd i;
+      over = λ u i. absurd i;
       reach = λ q i. then reached-first i;
     }
 

@@ -4,25 +4,20 @@
 use mathlib.Core.Path.{_≡_, refl, sym, _∙_, subst}
 use mathlib.Core.Logic.{_⊎_, inl, inr}
 use mathlib.Core.List.{List, [], _∷_}
-use mathlib.Core.Option.{some}
 use Prim.Native.Nat.{ℕ}
-use native.Mathlib.Omega.{arith}
 use Rattle.table.specs.Program.{Program}
 use Rattle.table.specs.WellFormed.{In}
 use Rattle.rules.specs.Verdict.{Clear}
-use Rattle.run.specs.Run.{held, alternative, called, Frame, frame, Thread, locks, Wants, wants, State}
+use Rattle.rules.specs.laws.Nest.{is-in}
+use Rattle.rules.specs.laws.Tests.{decided}
+use Rattle.run.specs.Run.{Thread, locks, Wants, wants, State}
 use Rattle.run.specs.Run.{thread, Waits, Line, Circle}
-use Rattle.run.specs.laws.History.{Activation, parent, History}
-use Rattle.run.specs.laws.Invariant.{last-taken, Dependency, Frames, Explained, Invariant, Holds}
-use Rattle.run.specs.laws.Places.{lock-onto}
+use Rattle.run.specs.laws.History.{Activation, History}
+use Rattle.run.specs.laws.Invariant.{Path, there, onward, Explained, Invariant, Holds}
+use Rattle.run.specs.laws.Places.{held-already, to-lock}
 use Rattle.run.specs.laws.Always.{Valid}
 use Rattle.run.specs.laws.Tree.{may, forest}
 use Rattle.run.specs.laws.Chain.{Forest, Links, none as no-links, next, AllBy, all-by-one}
-
--- the lock last taken is held
-last-held : (ls : List ℕ) (u : ℕ) → last-taken ls ≡ some u → In u ls
-last-held [] u q = absurd (let z : _≡_ {A = ℕ} 0 1 = cc in omega arith)
-last-held (x ∷ ls) u q = inl (cc)
 
 module _
     (P : Program) (clear : Clear P) (H : History) (n : ℕ) (acts : ℕ → Activation) (forms : ℕ → Thread)
@@ -37,11 +32,13 @@ module _
       (v : ℕ) (rest : Links F v z)
       → (c : Links F v w) × ((s : ℕ) → AllBy F s c → AllBy F s rest × ((w ≡ z) ⊎ (t ≡ s)))
 
-  -- one dependency more, before the rest
-  go-on : (t u v z : ℕ) → Holds (forms t) u → (u ≡ v) ⊎ Dependency P H t u v → Goes t v z → Goes t u z
+  -- along dependencies from locks that the thread holds
+  along-path :
+      (t : ℕ) (ls : List ℕ) → ((u : ℕ) → In u ls → Holds (forms t) u)
+      → {v u : ℕ} → Path P H t ls v u → Goes t u v
   unfolding AllBy
-  go-on t u v z h (inl e) k = subst (λ (w : ℕ). Goes t w z) (sym e) k
-  go-on t u v z h (inr f) k = λ y rest. let r = k y rest in (
+  along-path t ls h {v} (there e) = subst (λ (w : ℕ). Goes t w v) (sym e) (λ y rest. (rest, λ s a. (a, inl refl)))
+  along-path t ls h (onward {u = u} i f p) = λ y rest. let r = along-path t ls h p y rest in (
     next t
         (record {
           a = f .from;
@@ -51,34 +48,22 @@ module _
           start = f .stands-from;
           end = f .stands-to;
           kept = inl (f .differ);
-          owned = λ s e. subst (λ (z : ℕ). Holds (forms z) u) e h;
+          owned = λ s e. subst (λ (z : ℕ). Holds (forms z) u) e (h u i);
           one = inr (t, refl, (f .lawful, may H (f .act) (f .label) t (f .by)));
         })
         (r .0),
     λ s a. ((r .1 s (a .1)) .0, inr (a .0)),
   )
 
-  -- from a lock held up to the last taken, and on from there
-  climb :
-      (t z : ℕ) (A : Activation) (fs : List Frame) → Frames P H t A fs
-      → ((u : ℕ) → In u (locks fs) → Holds (forms t) u) → ((w : ℕ) → last-taken (locks fs) ≡ some w → Goes t w z)
-      → (l : ℕ) → In l (locks fs) → Goes t l z
-  climb t z A (frame (held m) e c ∷ fs) w h k l (inl q) = subst (λ (y : ℕ). Goes t y z) (sym q) (k m refl)
-  climb t z A (frame (held m) e c ∷ fs) w h k l (inr i) =
-      climb t z A fs (w .2) (λ u j. h u (inr j))
-      (λ u q. go-on t u m z (h u (inr (last-held (locks fs) u q))) (w .1 u q) (k m refl)) l i
-  climb t z A (frame alternative e c ∷ fs) w h k l i = climb t z A fs (w .2) h k l i
-  climb t z A (frame called e c ∷ fs) w h k l i = climb t z (parent A) fs (w .2) h k l i
-
-  -- a thread goes on from each lock that it holds to the lock that it wants
+  -- a thread holds the lock that it wants already, or goes on to it from each lock that it holds
   to-wanted :
       (t l m : ℕ) (A : Activation) (x : Thread) → Wants x l → Explained P H t A x
-      → ((u : ℕ) → Holds x u → Holds (forms t) u) → Holds x m → Goes t m l
-  to-wanted t l m A y (wants {x = x} {e = e} {fs = fs} q) w h i =
-      subst (Goes t m) q
-      (climb t (e x) A fs (w .1) h
-      (λ u p. go-on t u (e x) (e x) (h u (last-held (locks fs) u p)) (lock-onto P (g .made-once) (w .3) x (w .0) u p)
-      (λ v rest. (rest, λ s a. (a, inl refl)))) m i)
+      → ((u : ℕ) → Holds x u → Holds (forms t) u) → Holds x m → Holds (forms t) l ⊎ Goes t m l
+  to-wanted t l m A y (wants {x = x} {e = e} {fs = fs} q) w h i = subst (λ (z : ℕ). Holds (forms t) z ⊎ Goes t m z) q (
+      elim (decided (is-in x (w .0 .place .nest))) [
+        | yes k ↦ inl (h (e x) (held-already P (g .made-once) (w .0) k))
+        | no n ↦ inr (along-path t (locks fs) h (to-lock P (g .made-once) (w .0) (w .3) n m i))
+      ])
 
 module _ (P : Program) (clear : Clear P) (s : State) (v : Valid P s) where
   abbrev G : Forest
@@ -93,17 +78,20 @@ module _ (P : Program) (clear : Clear P) (s : State) (v : Valid P s) where
   -- a thread that waits passes on from each lock that it holds to the lock by which it waits
   passes-on : (t z l : ℕ) (w : Waits s t z) → Holds (thread s t) l → PassesOn t l (w .0)
   passes-on t z l w h y rest =
-      let r = to-wanted P clear (v .history) (v .serials) (v .acts) (thread s) (v .good) t (w .0) l (v .acts t)
-      (thread s t) (w .1) (v .good .explained t) (λ u i. i) h y rest in (
-        r .0,
-        λ x k. let q = r .1 x k in (
-          q .0,
-          elim (q .1) [
-            | inl e ↦ absurd (w .2 (v .good .alone z t (w .0) (w .3) (rw e at h)))
-            | inr e ↦ e
-          ],
-        ),
-      )
+      elim (to-wanted P clear (v .history) (v .serials) (v .acts) (thread s) (v .good) t (w .0) l (v .acts t)
+      (thread s t) (w .1) (v .good .explained t) (λ u i. i) h) [
+        | inl k ↦ absurd (w .2 (v .good .alone z t (w .0) (w .3) k))
+        | inr f ↦ let r = f y rest in (
+          r .0,
+          λ x k. let q = r .1 x k in (
+            q .0,
+            elim (q .1) [
+              | inl e ↦ absurd (w .2 (v .good .alone z t (w .0) (w .3) (rw e at h)))
+              | inr e ↦ e
+            ],
+          ),
+        )
+      ]
 
   -- the lock by which the last of a line waits
   last-lock : (t : ℕ) (us : List ℕ) (z : ℕ) → Line s t us z → ℕ

@@ -1,15 +1,16 @@
 -- The invariant of a run. The history explains each thread: its code, and the code after each open block, records
--- nothing that the model of its activation's routine lacks, and it took each lock over the one held before as a pair of
--- a model says. No lock is held by two threads, and no NEW or FORK still to be run has been run.
+-- nothing that the model of its activation's routine lacks, and from each lock that it holds dependencies, each as a
+-- pair of a model says, lead to the lock of the holder. No lock is held by two threads, and no NEW or FORK still to be
+-- run has been run.
 use mathlib.Core.Path.{_≡_}
-use mathlib.Core.Logic.{_≢_, _⊎_, inl, inr}
+use mathlib.Core.Logic.{_≢_}
 use mathlib.Core.List.{List, [], _∷_, _++_, map}
-use mathlib.Core.Option.{Option, none, some}
+use mathlib.Core.Option.{Option, some}
 use Prim.Native.Nat.{ℕ, _<_}
 use Rattle.table.specs.Program.{Code, Program, params}
 use Rattle.table.specs.WellFormed.{Scoped, onces, In, NoDup}
 use Rattle.rules.specs.Label.{Label, placed}
-use Rattle.rules.specs.Model.{Kept, renamed, Recorded, Model, Row}
+use Rattle.rules.specs.Model.{Kept, renamed, Place, Recorded, Model, Row}
 use Rattle.rules.specs.Verdict.{Calls, Reached}
 use Rattle.run.specs.Run.{Env, Open, held, alternative, called, Frame, frame, Thread, ended, at, locks, holds}
 use Rattle.run.specs.laws.History.{Activation, root, child, routine, parent, Item, item, age, History, Single}
@@ -18,11 +19,6 @@ use Rattle.run.specs.laws.History.{Ran, Stands, By, Longer, Stands-up, B
 -- the thread holds the lock
 abbrev pub Holds : Thread → ℕ → Type 0
 Holds x l = In l (holds x)
-
--- the lock last taken
-abbrev pub last-taken : List ℕ → Option ℕ
-last-taken [] = none
-last-taken (l ∷ ls) = some l
 
 -- the activation of what follows an open block or call
 abbrev pub under : Open → Activation → Activation
@@ -44,8 +40,8 @@ todo A (at c e fs) = items A c ++ later A fs
 
 module _ (P : Program) where
   -- what the code records at the place is in the model of the activation's routine
-  abbrev pub Inside : Activation → Label → Option ℕ → Code → Type 0
-  Inside A θ h c = (a b : ℕ) (l : Label) → Recorded P c θ h a b l → Kept a b l → Model P (routine A) a b l
+  abbrev pub Inside : Activation → Place → Code → Type 0
+  Inside A w c = (a b : ℕ) (l : Label) → Recorded P c w a b l → Kept a b l → Model P (routine A) a b l
 
   -- the row of the routine r, called at the place, is in the model of the activation's routine
   abbrev pub Passes : Activation → ℕ → Label → Option ℕ → List ℕ → Type 0
@@ -58,18 +54,6 @@ module _ (P : Program) where
   abbrev pub Lawful : History → Activation → Type 0
   Lawful H root = Unit {0}
   Lawful H (child p r θ h xs t n) = Lawful H p × By H p θ t × Passes p r θ h xs × Reached P r
-
-  -- thread t, which holds the locks ls, is or will be at the code, in the activation and with the names e
-  pub record Here (H : History) (t : ℕ) (A : Activation) (e : Env) (c : Code) (ls : List ℕ) : Type 0 where
-    pub label : Label
-    pub holder : Option ℕ
-    pub scope : List ℕ
-    pub by : By H A label t
-    pub inside : Inside A label holder c
-    pub scoped : Scoped P (params P (routine A)) scope c
-    pub stands : (x : ℕ) → In x scope → Stands P H A x (e x)
-    pub over : (u : ℕ) → last-taken ls ≡ some u → (a : ℕ) × (holder ≡ some a) × Stands P H A a u
-    pub reach : (q : ℕ) → Calls c q → Reached P q
 
   -- a dependency: thread t holds the lock u while it wants the lock v, as a pair of an activation's model says
   pub record Dependency (H : History) (t u v : ℕ) : Type 0 where
@@ -84,20 +68,37 @@ module _ (P : Program) where
     pub stands-from : Stands P H act from u
     pub stands-to : Stands P H act to v
 
-  -- the lock l is the last taken, or depends on it, or there is none
-  abbrev pub Onto : History → ℕ → List ℕ → ℕ → Type 0
-  Onto H t ls l = (u : ℕ) → last-taken ls ≡ some u → (u ≡ l) ⊎ Dependency H t u l
+  -- dependencies of thread t, each from a lock of the list ls, lead to the lock v from the lock u
+  pub data Path (H : History) (t : ℕ) (ls : List ℕ) (v : ℕ) : ℕ → Type 0 where
+    there : {u : ℕ} → u ≡ v → Path H t ls v u
+    onward : {u w : ℕ} → In u ls → Dependency H t u w → Path H t ls v w → Path H t ls v u
 
-  abbrev pub Taking : History → ℕ → Open → List ℕ → Type 0
-  Taking H t (held l) ls = Onto H t ls l
-  Taking H t alternative ls = Unit {0}
-  Taking H t called ls = Unit {0}
+  -- the holder h stands for a lock of the list ls, to which dependencies lead from the lock u
+  pub record Over (H : History) (t : ℕ) (A : Activation) (h : Option ℕ) (ls : List ℕ) (u : ℕ) : Type 0 where
+    pub name : ℕ
+    pub lock : ℕ
+    pub is-name : h ≡ some name
+    pub stands : Stands P H A name lock
+    pub held : In lock ls
+    pub path : Path H t ls lock u
+
+  -- thread t, which holds the locks ls, is or will be at the code, in the activation and with the names e
+  pub record Here (H : History) (t : ℕ) (A : Activation) (e : Env) (c : Code) (ls : List ℕ) : Type 0 where
+    pub place : Place
+    pub scope : List ℕ
+    pub by : By H A (place .thread) t
+    pub inside : Inside A place c
+    pub scoped : Scoped P (params P (routine A)) scope c
+    pub stands : (x : ℕ) → In x scope → Stands P H A x (e x)
+    pub kept : (x : ℕ) → In x (place .nest) → (u : ℕ) × Stands P H A x u × In u ls
+    pub over : (u : ℕ) → In u ls → Over H t A (place .holder) ls u
+    pub reach : (q : ℕ) → Calls c q → Reached P q
 
   -- all that is open around a code of the activation
   abbrev pub Frames : History → ℕ → Activation → List Frame → Type 0
   Frames H t A [] = Unit {0}
   Frames H t A (frame o e c ∷ fs) =
-      Here H t (under o A) e c (locks fs) × Taking H t o (locks fs) × Frames H t (under o A) fs
+      Here H t (under o A) e c (locks fs) × Frames H t (under o A) fs
 
   -- thread t, of the form x, in the activation
   abbrev pub Explained : History → ℕ → Activation → Thread → Type 0
@@ -122,19 +123,6 @@ module _ (P : Program) {H K : History} (up : Longer H K) where
   Lawful-up root w = tt
   Lawful-up (child p r θ h xs t n) w = (Lawful-up p (w .0), By-up P up p θ t (w .1), w .2, w .3)
 
-  pub Here-up : {t : ℕ} {A : Activation} {e : Env} {c : Code} {ls : List ℕ} → Here P H t A e c ls → Here P K t A e c ls
-  Here-up {t} {A} {e} w = record {
-    label = w .label;
-    holder = w .holder;
-    scope = w .scope;
-    by = By-up P up A (w .label) t (w .by);
-    inside = w .inside;
-    scoped = w .scoped;
-    stands = λ x i. Stands-up P up A x (e x) (w .stands x i);
-    over = λ u q. let r = w .over u q in (r .0, r .1, Stands-up P up A (r .0) u (r .2));
-    reach = w .reach;
-  }
-
   Dependency-up : (t u v : ℕ) → Dependency P H t u v → Dependency P K t u v
   Dependency-up t u v w = record {
     act = w .act;
@@ -149,15 +137,34 @@ module _ (P : Program) {H K : History} (up : Longer H K) where
     stands-to = Stands-up P up (w .act) (w .to) v (w .stands-to);
   }
 
-  Taking-up : (t : ℕ) (o : Open) (ls : List ℕ) → Taking P H t o ls → Taking P K t o ls
-  Taking-up t (held l) ls w = λ u q. elim (w u q) [ inl e ↦ inl e | inr k ↦ inr (Dependency-up t u l k) ]
-  Taking-up t alternative ls w = tt
-  Taking-up t called ls w = tt
+  Path-up : {t v u : ℕ} {ls : List ℕ} → Path P H t ls v u → Path P K t ls v u
+  Path-up (there e) = there e
+  Path-up {t} (onward {u = u} {w = w} i d p) = onward i (Dependency-up t u w d) (Path-up p)
+
+  pub Here-up : {t : ℕ} {A : Activation} {e : Env} {c : Code} {ls : List ℕ} → Here P H t A e c ls → Here P K t A e c ls
+  Here-up {t} {A} {e} w = record {
+    place = w .place;
+    scope = w .scope;
+    by = By-up P up A (w .place .thread) t (w .by);
+    inside = w .inside;
+    scoped = w .scoped;
+    stands = λ x i. Stands-up P up A x (e x) (w .stands x i);
+    kept = λ x i. let r = w .kept x i in (r .0, Stands-up P up A x (r .0) (r .1), r .2);
+    over = λ u i. let r = w .over u i in record {
+      name = r .name;
+      lock = r .lock;
+      is-name = r .is-name;
+      stands = Stands-up P up A (r .name) (r .lock) (r .stands);
+      held = r .held;
+      path = Path-up (r .path);
+    };
+    reach = w .reach;
+  }
 
   pub Frames-up : (t : ℕ) (A : Activation) (fs : List Frame) → Frames P H t A fs → Frames P K t A fs
   Frames-up t A [] w = tt
   Frames-up t A (frame o e c ∷ fs) w =
-      (Here-up (w .0), Taking-up t o (locks fs) (w .1), Frames-up t (under o A) fs (w .2))
+      (Here-up (w .0), Frames-up t (under o A) fs (w .1))
 
   pub Explained-up : (t : ℕ) (A : Activation) (x : Thread) → Explained P H t A x → Explained P K t A x
   Explained-up t A ended w = tt

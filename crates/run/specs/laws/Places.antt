@@ -1,21 +1,21 @@
 -- A code at its place, one item further: each part of a code that is explained is explained, since it records no more
--- and calls no more than the whole; and a LOCK is wanted over the lock last taken as a pair of the model says.
+-- and calls no more than the whole. A LOCK is on a lock that is held, or dependencies lead to its lock from each held.
 use mathlib.Core.Path.{_≡_, refl, subst}
-use mathlib.Core.Logic.{_⊎_, inl, inr}
+use mathlib.Core.Logic.{inl, inr}
 use mathlib.Core.List.{List, [], _∷_}
-use mathlib.Core.Option.{none, some}
+use mathlib.Core.Option.{Option}
 use Prim.Native.Nat.{ℕ}
-use native.Mathlib.Omega.{arith}
 use native.Mathlib.Decide.{ℕ-discrete}
 use Rattle.table.specs.Program.{Code, lock, fork, choice, call, Program, params}
-use Rattle.table.specs.WellFormed.{Scoped}
+use Rattle.table.specs.WellFormed.{Scoped, In}
 use Rattle.rules.specs.Label.{Label, forked}
-use Rattle.rules.specs.Model.{Recorded, at-lock, in-lock, after-lock, in-fork, after-fork, in-first, in-second}
-use Rattle.rules.specs.Model.{after-choice, after-call}
+use Rattle.rules.specs.Model.{Place, nested, underLock, underFork, Recorded, at-lock, in-lock, after-lock, in-fork}
+use Rattle.rules.specs.Model.{after-fork, in-first, in-second, after-choice, after-call}
 use Rattle.rules.specs.Verdict.{Calls}
+use Rattle.rules.specs.laws.Nest.{by-nest}
 use Rattle.run.specs.Run.{Env, Open, held, alternative, called}
 use Rattle.run.specs.laws.History.{Activation, root, child, routine, History, Single, Stands, stands-one, By}
-use Rattle.run.specs.laws.Invariant.{under, Lawful, Here, Dependency, Onto}
+use Rattle.run.specs.laws.Invariant.{under, Lawful, Dependency, Path, there, onward, Over, Here}
 
 module _ (P : Program) where
   pub under-lawful : (H : History) (o : Open) (A : Activation) → Lawful P H A → Lawful P H (under o A)
@@ -24,22 +24,44 @@ module _ (P : Program) where
   under-lawful H called root w = tt
   under-lawful H called (child p r θ h xs t n) w = w .0
 
+  -- a lock more is held
+  wider : {H : History} {t v u m : ℕ} {ls : List ℕ} → Path P H t ls v u → Path P H t (m ∷ ls) v u
+  wider (there e) = there e
+  wider (onward i d p) = onward (inr i) d (wider p)
+
+  over-wider : {H : History} {t : ℕ} {A : Activation} {h : Option ℕ} {ls : List ℕ} {u m : ℕ}
+      → Over P H t A h ls u → Over P H t A h (m ∷ ls) u
+  over-wider r = record {
+    name = r .name;
+    lock = r .lock;
+    is-name = r .is-name;
+    stands = r .stands;
+    held = inr (r .held);
+    path = wider (r .path);
+  }
+
+  -- a dependency more, at the end
+  extended : {H : History} {t u v w : ℕ} {ls : List ℕ}
+      → Path P H t ls v u → In v ls → Dependency P H t v w → Path P H t ls w u
+  extended {w = w} (there e) i d = rw e (onward i d (there refl))
+  extended (onward j k p) i d = onward j k (extended p i d)
+
   module _ {H : History} {t : ℕ} {A : Activation} {e : Env} {ls : List ℕ} where
     -- a part d of the code c at the same place
     part :
         {c d : Code} (w : Here P H t A e c ls)
         → ((a b : ℕ) (l : Label)
-        → Recorded P d (w .label) (w .holder) a b l → Recorded P c (w .label) (w .holder) a b l)
+        → Recorded P d (w .place) a b l → Recorded P c (w .place) a b l)
         → Scoped P (params P (routine A)) (w .scope) d → ((q : ℕ) → Calls d q → Calls c q)
         → Here P H t A e d ls
     part w f k r = record {
-      label = w .label;
-      holder = w .holder;
+      place = w .place;
       scope = w .scope;
       by = w .by;
       inside = λ a b l x. w .inside a b l (f a b l x);
       scoped = k;
       stands = w .stands;
+      kept = w .kept;
       over = w .over;
       reach = λ q x. w .reach q (r q x);
     }
@@ -62,56 +84,87 @@ module _ (P : Program) where
     pub call-rest : {r : ℕ} {xs : List ℕ} {c : Code} → Here P H t A e (call r xs c) ls → Here P H t A e c ls
     call-rest w = part w (λ x y l r. after-call r) (w .scoped .3) (λ q r. inr r)
 
-    -- the block of a LOCK, once the lock is taken
-    pub lock-block : {x : ℕ} {c d : Code} → Here P H t A e (lock x c d) ls → Here P H t A e c (e x ∷ ls)
-    lock-block {x} w = record {
-      label = w .label;
-      holder = some x;
-      scope = w .scope;
-      by = w .by;
-      inside = λ a b l r. w .inside a b l (in-lock r);
-      scoped = w .scoped .1;
-      stands = w .stands;
-      over = λ u q. (x, refl, subst (λ (v : ℕ). Stands P H A x v) (cc) (w .stands x (w .scoped .0)));
-      reach = λ q r. w .reach q (inl r);
-    }
-
     -- the block of a FORK, run by the new thread u
     pub fork-block :
         {i : ℕ} {c d : Code} {u : ℕ} → By H A (forked i) u
         → Here P H t A e (fork i c d) ls → Here P H u A e c []
     fork-block {i} b w = record {
-      label = forked i;
-      holder = none;
+      place = underFork i;
       scope = w .scope;
       by = b;
       inside = λ x y l r. w .inside x y l (in-fork r);
       scoped = w .scoped .0;
       stands = w .stands;
-      over = λ v q. absurd (let z : _≡_ {A = ℕ} 0 1 = cc in omega arith);
+      kept = λ x i. absurd i;
+      over = λ v i. absurd i;
       reach = λ q r. w .reach q (inl r);
     }
 
-    -- the lock of a LOCK is the last taken, or depends on it
-    pub lock-onto :
-        Single (H .maker) (H .made) → Lawful P H A
-        → (x : ℕ) {c d : Code} → Here P H t A e (lock x c d) ls → Onto P H t ls (e x)
-    lock-onto once law x w u q = let r = w .over u q in step (r .0) (r .1) (r .2) (ℕ-discrete (r .0) x)
-      where
-        here : Stands P H A x (e x)
-        here = w .stands x (w .scoped .0)
+    module _ (once : Single (H .maker) (H .made)) {x : ℕ} {c d : Code} (w : Here P H t A e (lock x c d) ls) where
+      here : Stands P H A x (e x)
+      here = w .stands x (w .scoped .0)
 
-        step : (a : ℕ) → w .holder ≡ some a → Stands P H A a u → Dec (a ≡ x) → (u ≡ e x) ⊎ Dependency P H t u (e x)
-        step a ha sa (yes p) = inl (stands-one P H once A x u (e x) (rw p at sa) here)
-        step a ha sa (no ne) = inr (record {
-          act = A;
-          from = a;
-          to = x;
-          label = w .label;
-          differ = ne;
-          lawful = law;
-          by = w .by;
-          pair = w .inside a x (w .label) (at-lock ha refl refl) (inl ne);
-          stands-from = sa;
-          stands-to = here;
-        })
+      -- a LOCK on a name of the nest is on a lock that is held
+      pub held-already : In x (w .place .nest) → In (e x) ls
+      held-already i =
+          let r = w .kept x i in subst (λ (v : ℕ). In v ls) (stands-one P H once A x (r .0) (e x) (r .1) here) (r .2)
+
+      -- to the lock of any other LOCK dependencies lead from each lock held
+      pub to-lock : Lawful P H A → ¬ In x (w .place .nest) → (u : ℕ) → In u ls → Path P H t ls (e x) u
+      to-lock law new u i = let r = w .over u i in step r (ℕ-discrete (r .name) x)
+        where
+          step : (r : Over P H t A (w .place .holder) ls u) → Dec (r .name ≡ x) → Path P H t ls (e x) u
+          step r (yes p) =
+              subst (λ (v : ℕ). Path P H t ls v u) (stands-one P H once A x (r .lock) (e x) (rw p at (r .stands)) here)
+              (r .path)
+          step r (no ne) = extended (r .path) (r .held) (record {
+            act = A;
+            from = r .name;
+            to = x;
+            label = w .place .thread;
+            differ = ne;
+            lawful = law;
+            by = w .by;
+            pair = w .inside (r .name) x (w .place .thread) (at-lock new (r .is-name) refl refl) (inl ne);
+            stands-from = r .stands;
+            stands-to = here;
+          })
+
+      -- the block of a LOCK, once the lock is taken
+      pub lock-block : Lawful P H A → Here P H t A e c (e x ∷ ls)
+      lock-block law = record {
+        place = underLock x (w .place);
+        scope = w .scope;
+        by = by-nest (λ v. By H A (v .thread) t) x (w .place) (λ i. w .by) (λ n. w .by);
+        inside = λ a b l r. w .inside a b l (in-lock r);
+        scoped = w .scoped .1;
+        stands = w .stands;
+        kept = by-nest Keeps x (w .place) (λ i. kept) new-kept;
+        over = by-nest Covers x (w .place)
+            (λ i u j. over-wider (w .over u (elim j [ inl p ↦ rw p (held-already i) | inr k ↦ k ])))
+            new-over;
+        reach = λ q r. w .reach q (inl r);
+      }
+        where
+          Keeps : Place → Type 0
+          Keeps v = (y : ℕ) → In y (v .nest) → (u : ℕ) × Stands P H A y u × In u (e x ∷ ls)
+
+          kept : Keeps (w .place)
+          kept y i = let r = w .kept y i in (r .0, r .1, inr (r .2))
+
+          new-kept : ¬ In x (w .place .nest) → Keeps (nested x (w .place))
+          new-kept n y (inl p) = (e x, rw p here, inl refl)
+          new-kept n y (inr i) = kept y i
+
+          Covers : Place → Type 0
+          Covers v = (u : ℕ) → In u (e x ∷ ls) → Over P H t A (v .holder) (e x ∷ ls) u
+
+          new-over : ¬ In x (w .place .nest) → Covers (nested x (w .place))
+          new-over n u i = record {
+            name = x;
+            lock = e x;
+            is-name = refl;
+            stands = here;
+            held = inl refl;
+            path = elim i [ inl p ↦ there p | inr j ↦ wider (to-lock law n u j) ];
+          }

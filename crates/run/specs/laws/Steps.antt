@@ -2,7 +2,6 @@
 use mathlib.Core.Path.{_≡_, refl, sym, ap, _∙_, subst}
 use mathlib.Core.Logic.{_⊎_, inl, inr}
 use mathlib.Core.List.{List, [], _∷_, _++_, append-assoc, append-nil, map-append}
-use mathlib.Core.Option.{some}
 use Prim.Native.Nat.{ℕ, suc, _≤_, _<_}
 use native.Mathlib.Omega.{arith}
 use native.Mathlib.Decide.{ℕ-discrete}
@@ -11,8 +10,8 @@ use lib.ListN.{length, getD}
 use Rattle.table.specs.Program.{Code, end, new, lock, fork, choice, call, Program, params, body, names}
 use Rattle.table.specs.WellFormed.{onces, In}
 use Rattle.table.specs.WellFormed.{NoDup, makes, starts, WellFormed}
-use Rattle.rules.specs.Label.{own, placed}
-use Rattle.rules.specs.Model.{at-call, records, in-new}
+use Rattle.rules.specs.Label.{placed}
+use Rattle.rules.specs.Model.{atHead, at-call, records, in-new}
 use Rattle.rules.specs.Verdict.{Reached, then}
 use Rattle.run.specs.Run.{Env, bind, pass, Open, held, alternative, called, Frame, frame, Thread, ended, at}
 use Rattle.run.specs.Run.{locks}
@@ -27,7 +26,7 @@ use Rattle.run.specs.laws.Invariant.{Holds}
 use Rattle.run.specs.laws.Invariant.{Explained, Invariant}
 use Rattle.run.specs.laws.Change.{Fresh, Free, change}
 use Rattle.run.specs.laws.Places.{under-lawful, choice-first, choice-second, choice-rest, lock-rest, fork-rest}
-use Rattle.run.specs.laws.Places.{call-rest, lock-block, fork-block, lock-onto}
+use Rattle.run.specs.laws.Places.{call-rest, lock-block, fork-block}
 
 -- the items of a code with blocks, sorted out
 module _ (A : Activation) (L : List Item) where
@@ -89,7 +88,7 @@ module _
   step-end e o f c fs eq =
       let w = explained-at (at end e (frame o f c ∷ fs)) eq in
       keep (at end e (frame o f c ∷ fs)) (at c f fs) (under o A) eq
-      (w .1 .0, w .1 .2, w .2, under-lawful P H o A (w .3))
+      (w .1 .0, w .1 .1, w .2, under-lawful P H o A (w .3))
       (λ k i. i)
       (λ l i. inl (under-holds o f c fs l i))
 
@@ -109,7 +108,7 @@ module _
         → Invariant P H n (upd acts t A) (upd forms t (at d e (frame alternative e c ∷ fs)))
     into d h f i =
         keep (at (choice a b c) e fs) (at d e (frame alternative e c ∷ fs)) A eq
-        (h, (choice-rest P (choice-at .0), tt, choice-at .1), f (rw items-choice at (choice-at .2)), choice-at .3)
+        (h, (choice-rest P (choice-at .0), choice-at .1), f (rw items-choice at (choice-at .2)), choice-at .3)
         (λ k j. rw items-choice (i k j))
         (λ l j. inl j)
 
@@ -130,8 +129,8 @@ module _
   step-lock x c d e fs eq free =
       let w = explained-at (at (lock x c d) e fs) eq in
       keep (at (lock x c d) e fs) (at c e (frame (held (e x)) e d ∷ fs)) A eq (
-        lock-block P (w .0),
-        (lock-rest P (w .0), lock-onto P (g .made-once) (w .3) x (w .0), w .1),
+        lock-block P (g .made-once) (w .0) (w .3),
+        (lock-rest P (w .0), w .1),
         (rw items-lock at (w .2)),
         w .3,
       )
@@ -158,13 +157,13 @@ module _
     new-here : Here P H t A e (new x c) (locks fs) → Here P after-new t A (bind x (H .made) e) c (locks fs)
     unfolding bind
     new-here v = let w = Here-up P new-longer v in record {
-      label = w .label;
-      holder = w .holder;
+      place = w .place;
       scope = x ∷ w .scope;
       by = w .by;
       inside = λ a b l r. w .inside a b l (in-new r);
       scoped = w .scoped .1;
       stands = λ y i. step w y i (ℕ-discrete y x);
+      kept = w .kept;
       over = w .over;
       reach = w .reach;
     }
@@ -316,39 +315,45 @@ module _
     abbrev call-at : Explained P H t A (at (call r xs c) e fs)
     call-at = explained-at (at (call r xs c) e fs) eq
 
-    abbrev place : Here P H t A e (call r xs c) (locks fs)
-    place = call-at .0
+    abbrev site : Here P H t A e (call r xs c) (locks fs)
+    site = call-at .0
 
     abbrev callee : Activation
-    callee = child A r (place .label) (place .holder) xs t n
+    callee = child A r (site .place .thread) (site .place .holder) xs t n
 
     abbrev call-todo : List Item
     call-todo = items A c ++ later A fs
 
     reached : Reached P r
-    reached = place .reach r (inl refl)
+    reached = site .reach r (inl refl)
 
     call-stands : (x : ℕ) → In x (names (params P r)) → Stands P H callee x (pass xs e x)
     call-stands x j = let q = names-in (params P r) x j in step (q .0) (q .1) (q .2)
       where
         step : (i : ℕ) → x ≡ suc i → i < params P r → Stands P H callee x (pass xs e x)
         step i p lt =
-            let len : length xs ≡ params P r = place .scoped .1 in
+            let len : length xs ≡ params P r = site .scoped .1 in
             let k = getD-in xs i (omega arith) in
-            let name = place .stands (getD xs i 0) (place .scoped .2 (getD xs i 0) (k .0)) in
+            let name = site .stands (getD xs i 0) (site .scoped .2 (getD xs i 0) (k .0)) in
             subst (λ (y : ℕ). Stands P H callee y (pass xs e y)) (sym p) (passed lt (k .1) name)
 
     call-here : Here P H t callee (pass xs e) (body P r) (locks fs)
     call-here = record {
-      label = own;
-      holder = some 0;
+      place = atHead;
       scope = names (params P r);
       by = refl;
       inside = λ a b l w k. records w k;
-      scoped = wf .scoped r (place .scoped .0);
+      scoped = wf .scoped r (site .scoped .0);
       stands = call-stands;
-      over = λ u q.
-          let k = place .over u q in (0, refl, passed (let z : 0 ≤ params P r = omega arith in z) (k .1) (k .2));
+      kept = λ x i. absurd i;
+      over = λ u i. let k = site .over u i in record {
+        name = 0;
+        lock = k .lock;
+        is-name = refl;
+        stands = passed (let z : 0 ≤ params P r = omega arith in z) (k .is-name) (k .stands);
+        held = k .held;
+        path = k .path;
+      };
       reach = λ q i. then reached i;
     }
 
@@ -370,7 +375,7 @@ module _
     call-once : NoDup (items callee (body P r) ++ call-todo)
     call-once =
         NoDup-join (items callee (body P r)) call-todo
-        (NoDup-map (item callee) (λ x y q. cc) (onces (body P r)) (wf .once r (place .scoped .0)))
+        (NoDup-map (item callee) (λ x y q. cc) (onces (body P r)) (wf .once r (site .scoped .0)))
         (call-at .2)
         (λ k i j. (call-fresh k i) .0 t (was-call k j))
 
@@ -382,13 +387,13 @@ module _
         more = omega arith;
         explained = (
           call-here,
-          (call-rest P place, tt, call-at .1),
+          (call-rest P site, call-at .1),
           call-once,
           (
             call-at .3,
-            place .by,
-            (λ a b l x y w p q kept. place .inside x y (placed (place .label) l)
-                (at-call (w .1) (w .2) (w .3) (w .4) p q (ap (placed (place .label)) (w .5))) kept),
+            site .by,
+            (λ a b l x y w p q kept. site .inside x y (placed (site .place .thread) l)
+                (at-call (w .1) (w .2) (w .3) (w .4) p q (ap (placed (site .place .thread)) (w .5))) kept),
             reached,
           ),
         );

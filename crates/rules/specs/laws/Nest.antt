@@ -1,0 +1,28 @@
+-- The place inside a LOCK block: the one outside where the name is in the nest already.
+use mathlib.Core.Path.{_≡_, refl}
+use mathlib.Core.Bool.{Bool, true, false, cond}
+use mathlib.Core.List.{List}
+use Prim.Native.Nat.{ℕ}
+use lib.Dec.{T}
+use Rattle.table.specs.WellFormed.{In}
+use Rattle.table.specs.Check.{in?}
+use Rattle.table.specs.laws.Complete.{In-in?}
+use Rattle.table.specs.laws.Sound.{in?-In}
+use Rattle.rules.specs.Model.{Place, nested, underLock}
+use Rattle.rules.specs.laws.Tests.{Decides}
+
+pub is-in : (x : ℕ) (ns : List ℕ) → Decides (in? x ns) (In x ns)
+is-in x ns = record { fact = λ t. in?-In x ns (yes-true (in? x ns) t); test = λ i. rw (In-in? x ns i) tt }
+  where
+    yes-true : (b : Bool) → T b → b ≡ true
+    yes-true true t = refl
+
+-- the two cases of a LOCK: its name is in the nest already and the place inside is the one outside, or it is put there
+pub by-nest :
+    (Q : Place → Type 0) (x : ℕ) (w : Place)
+    → (In x (w .nest) → Q w) → (¬ In x (w .nest) → Q (nested x w)) → Q (underLock x w)
+by-nest Q x w again first = go (in? x (w .nest)) (is-in x (w .nest))
+  where
+    go : (b : Bool) → Decides b (In x (w .nest)) → Q (cond b w (nested x w))
+    go true d = again (d .fact tt)
+    go false d = first (λ i. d .test i)
