@@ -3,7 +3,7 @@
  *
  * Link with the archive that `rt staticlib analysis` writes, target/staticlib/libanalysis.a. The calls keep no state,
  * take no memory of their own, write nothing but what is said here, and are proved to end for every input. They use
- * less than 10 KiB of stack (9,876 bytes measured): have 16 KiB free. Two calls may run at the same time on different
+ * less than 10 KiB of stack (9,892 bytes measured): have 16 KiB free. Two calls may run at the same time on different
  * model buffers. What each refusal's number means is in refusals.h. */
 #ifndef VANGPEAR_H
 #define VANGPEAR_H
@@ -48,7 +48,9 @@ uint32_t vangpear_check(const uint8_t *table, size_t length);
 /* Analyses the table as vangpear_check takes it. Gives 0 for clear, VANGPEAR_RING and more for a ring, or the refusal's
  * number: 1 to 14, or 15 where the `size` bytes at `model` are fewer than VANGPEAR_ROW for each routine. A refusal
  * leaves the buffer as it was; otherwise its first VANGPEAR_ROW * routines bytes are the rows of the model, and those
- * after them are as they were. `table` and `model` must not overlap. */
+ * after them are as they were. `table` and `model` must not overlap. The share that a listing has is not in the number:
+ * a caller who wants it has to find the routines that calls reach, in the table, and to count those of them whose last
+ * byte in the model is 0 (docs/FORMAT.md). */
 uint32_t vangpear_analyse(const uint8_t *table, size_t length, uint8_t *model, size_t size);
 
 #ifdef __cplusplus

@@ -1,11 +1,12 @@
-//! The worked tables of docs/FORMAT.md, and a table for each of its rules.
+//! The worked tables a to j of docs/FORMAT.md, and a table for each of its rules.
+//! Verdicts and shares are worked out by hand.
 
 use crate::generate::assemble;
 use crate::limits::code::*;
-use crate::limits::{MAX_NEW, MAX_PARAMETERS, ROW_BYTES};
-use crate::{hex, Answer};
+use crate::limits::{MAX_NEW, MAX_PARAMETERS, MAX_ROUTINES, ROW_BYTES};
+use crate::{hex, Answer, Share, Verdict};
 
-/// A table with the verdict it must get.
+/// A table with the verdict and the share it must get.
 pub struct Case {
     /// What the case shows. A worked case's name is also the stem of its example file.
     pub name: &'static str,
@@ -13,66 +14,88 @@ pub struct Case {
     pub answer: Answer,
 }
 
+/// No reached routine has a ring, so the share is whole.
+fn clear(reached: u8) -> Answer {
+    Answer::Accepted {
+        verdict: Verdict::Clear,
+        share: Share {
+            percent: 100,
+            remainder: 0,
+            reached,
+        },
+    }
+}
+
+/// The routine and the name of a ring, with the three numbers of the share.
+fn ring(routine: usize, name: u8, [percent, remainder, reached]: [u8; 3]) -> Answer {
+    Answer::Accepted {
+        verdict: Verdict::Ring { routine, name },
+        share: Share {
+            percent,
+            remainder,
+            reached,
+        },
+    }
+}
+
 /// Cases a to j; i has two tables.
 pub fn worked() -> Vec<Case> {
-    let clear = Answer::Clear;
-    let ring = |routine, name| Answer::Ring { routine, name };
     [
-        ("a-empty-body", "01 00 01 00 00", clear),
+        ("a-empty-body", "01 00 01 00 00", clear(1)),
         (
             "b-two-threads-opposite-order",
             "01 00 11 00 01 01 03 02 01 02 02 00 00 00 02 02 02 01 00 00 00",
-            ring(0, 1),
+            ring(0, 1, [0, 0, 1]),
         ),
         (
             "c-two-threads-same-order",
             "01 00 11 00 01 01 03 02 01 02 02 00 00 00 02 01 02 02 00 00 00",
-            clear,
+            clear(1),
         ),
         (
             "d-one-thread-locks-twice",
             "01 00 08 00 01 02 01 02 01 00 00 00",
-            clear,
+            clear(1),
         ),
         (
             "e-two-threads-lock-twice",
             "01 00 10 00 01 03 02 01 02 01 00 00 00 02 01 02 01 00 00 00",
-            clear,
+            clear(1),
         ),
         (
             "f-opposite-order-under-one-guard",
             "01 00 18 00 01 01 01 03 02 01 02 03 02 02 00 00 00 00
              02 01 02 02 02 03 00 00 00 00",
-            ring(0, 2),
+            ring(0, 2, [0, 0, 1]),
         ),
         (
             "g-philosophers",
             "02 00 02 1D 00 01 06 01 01 01 00
              04 02 02 02 01 00 00 05 01 03 02 01 02 03 00 00 00 06 01 03 02 00 00",
-            clear,
+            clear(2),
         ),
         (
             "h-philosophers-all-alike",
             "02 00 02 1D 00 01 06 01 01 01 00
              04 02 01 02 02 00 00 05 01 03 02 01 02 03 00 00 00 06 01 03 02 00 00",
-            ring(0, 1),
+            ring(0, 1, [50, 0, 2]),
         ),
         (
             "i-called-fork-one-lock-twice",
             "02 00 03 14 00 01 01 06 01 01 02 01 00
              03 02 01 02 02 02 03 00 00 00 00 00",
-            ring(0, 1),
+            ring(0, 1, [50, 0, 2]),
         ),
         (
             "i-written-fork-one-lock-twice",
             "01 00 0E 00 01 01 03 02 01 02 02 02 01 00 00 00 00 00",
-            clear,
+            clear(1),
         ),
         (
             "j-main-thread-locks-first-again",
             "01 00 14 00 01 01 03 02 01 02 02 00 00 00
              02 01 02 02 02 01 00 00 00 00",
-            clear,
+            clear(1),
         ),
     ]
     .into_iter()
@@ -93,7 +116,7 @@ pub struct Limit {
 }
 
 /// The cases that are not worked ones: both sides of the limits on open blocks,
-/// NEW and the model buffer.
+/// NEW, routines and the model buffer.
 pub fn limits() -> Vec<Limit> {
     // A routine 1 with one parameter that opens `depth` blocks, one in another.
     let nested = |open: &[u8], close: &[u8], depth: usize| {
@@ -110,6 +133,8 @@ pub fn limits() -> Vec<Limit> {
     let firsts = |depth| nested(&[CHOICE], &[OTHER, END], depth);
     let seconds = |depth| nested(&[CHOICE, OTHER], &[END], depth);
     let news = |count| assemble(&[0], &[vec![NEW; count], vec![END]].concat());
+    // Routine 0 calls all others.
+    let routines = |count| without_ring(count, count);
 
     let mut all = Vec::new();
     let mut put = |name, table: Vec<u8>, per_routine: usize, answer| {
@@ -121,29 +146,22 @@ pub fn limits() -> Vec<Limit> {
         });
     };
     let refused = Answer::Refused;
-    put("16 lock blocks", locks(16), ROW_BYTES, Answer::Clear);
+    put("16 lock blocks", locks(16), ROW_BYTES, clear(1));
     put("17 lock blocks", locks(17), ROW_BYTES, refused(10));
-    put(
-        "16 first alternatives",
-        firsts(16),
-        ROW_BYTES,
-        Answer::Clear,
-    );
+    put("16 first alternatives", firsts(16), ROW_BYTES, clear(1));
     put("17 first alternatives", firsts(17), ROW_BYTES, refused(10));
-    put(
-        "16 second alternatives",
-        seconds(16),
-        ROW_BYTES,
-        Answer::Clear,
-    );
+    put("16 second alternatives", seconds(16), ROW_BYTES, clear(1));
     put(
         "17 second alternatives",
         seconds(17),
         ROW_BYTES,
         refused(10),
     );
-    put("8 NEW", news(8), ROW_BYTES, Answer::Clear);
+    put("8 NEW", news(8), ROW_BYTES, clear(1));
     put("9 NEW", news(9), ROW_BYTES, refused(11));
+    put("64 routines", routines(64), ROW_BYTES, clear(64));
+    put("64 routines", routines(64), ROW_BYTES - 1, refused(15));
+    put("65 routines", routines(65), ROW_BYTES, refused(2));
     for case in worked() {
         put(case.name, case.table.clone(), ROW_BYTES, case.answer);
         put(case.name, case.table, ROW_BYTES - 1, refused(15));
@@ -162,6 +180,7 @@ pub fn limits() -> Vec<Limit> {
 pub fn rules() -> Vec<Case> {
     let mut all = pair_rules();
     all.extend(nest_rules());
+    all.extend(share_rules());
     all
 }
 
@@ -194,8 +213,6 @@ fn choice(first: &[u8], second: &[u8]) -> Vec<u8> {
 /// Tables that tell what counts as one thread, one body, one name and one nest, for a
 /// LOCK that is passed over.
 fn nest_rules() -> Vec<Case> {
-    let clear = Answer::Clear;
-    let ring = |routine, name| Answer::Ring { routine, name };
     let lock = |name: u8| nest(&[name], &[]);
     // A body of these items, one after another.
     let body = |parts: &[&[u8]]| [&parts.concat()[..], &[END]].concat();
@@ -211,7 +228,7 @@ fn nest_rules() -> Vec<Case> {
         (
             "inside a LOCK passed over the h is the outer one",
             alone(3, &[&nest(&[1, 2, 1, 3], &[])]),
-            clear,
+            clear(2),
         ),
         (
             "a CALL inside a LOCK passed over puts the outer h for name 0",
@@ -222,7 +239,7 @@ fn nest_rules() -> Vec<Case> {
                     &locks_its_parameter,
                 ],
             ),
-            ring(0, 2),
+            ring(0, 2, [33, 1, 3]),
         ),
         (
             "behind a LOCK passed over the h is as before it",
@@ -233,7 +250,7 @@ fn nest_rules() -> Vec<Case> {
                     &nest(&[1, 2], &[lock(1), lock(3)].concat()),
                 ],
             ),
-            ring(0, 2),
+            ring(0, 2, [0, 0, 2]),
         ),
         (
             "a fork in a LOCK block does not hold its name",
@@ -241,12 +258,12 @@ fn nest_rules() -> Vec<Case> {
                 2,
                 &[&nest(&[1], &[lock(2), fork(&nest(&[2, 1], &[]))].concat())],
             ),
-            ring(0, 1),
+            ring(0, 1, [0, 0, 2]),
         ),
         (
             "a fork passes over what it holds itself",
             alone(3, &[&fork(&nest(&[1, 2, 1, 3], &[])), &nest(&[1, 2], &[])]),
-            clear,
+            clear(2),
         ),
         (
             "a nest goes on behind a fork in it",
@@ -257,7 +274,7 @@ fn nest_rules() -> Vec<Case> {
                     &nest(&[1], &[fork(&lock(2)), nest(&[2, 1], &[])].concat()),
                 ],
             ),
-            clear,
+            clear(2),
         ),
         (
             "a callee does not hold what its caller holds",
@@ -268,7 +285,7 @@ fn nest_rules() -> Vec<Case> {
                     &locks_its_parameter,
                 ],
             ),
-            ring(0, 1),
+            ring(0, 1, [33, 1, 3]),
         ),
         (
             "a name is held no longer than its block",
@@ -280,7 +297,7 @@ fn nest_rules() -> Vec<Case> {
                     &nest(&[2, 1], &[]),
                 ],
             ),
-            ring(0, 1),
+            ring(0, 1, [0, 0, 2]),
         ),
         (
             "the end of a LOCK passed over ends no hold",
@@ -291,7 +308,7 @@ fn nest_rules() -> Vec<Case> {
                     &nest(&[1], &[lock(1), nest(&[2, 1], &[])].concat()),
                 ],
             ),
-            clear,
+            clear(2),
         ),
         (
             "both alternatives stand in the nest around the choice",
@@ -302,7 +319,7 @@ fn nest_rules() -> Vec<Case> {
                     &nest(&[1], &choice(&nest(&[2, 1], &[]), &nest(&[3, 1, 2], &[]))),
                 ],
             ),
-            clear,
+            clear(2),
         ),
         (
             "what one alternative holds the other does not",
@@ -313,7 +330,7 @@ fn nest_rules() -> Vec<Case> {
                     &choice(&nest(&[1, 2], &[]), &nest(&[2, 1], &[])),
                 ],
             ),
-            ring(0, 1),
+            ring(0, 1, [0, 0, 2]),
         ),
         (
             "two parameters are two names, also for one lock",
@@ -324,12 +341,12 @@ fn nest_rules() -> Vec<Case> {
                     &body(&[&nest(&[1, 2, 3], &[])]),
                 ],
             ),
-            ring(0, 1),
+            ring(0, 1, [33, 1, 3]),
         ),
         (
             "names taken again, one in another",
             alone(3, &[&nest(&[1, 2, 1, 2, 3], &[])]),
-            clear,
+            clear(2),
         ),
         (
             "three names taken again down to the last block",
@@ -340,17 +357,17 @@ fn nest_rules() -> Vec<Case> {
                     &[],
                 )],
             ),
-            clear,
+            clear(2),
         ),
         (
             "the name of the innermost block taken again",
             alone(2, &[&nest(&[1, 1, 2], &[])]),
-            clear,
+            clear(2),
         ),
         (
             "the name of the outermost block taken again in the sixteenth",
             alone(2, &[&fork_one_then_two, &nest(&[1], &thirteen_choices)]),
-            clear,
+            clear(2),
         ),
         (
             "the highest names taken again",
@@ -362,7 +379,7 @@ fn nest_rules() -> Vec<Case> {
                     &nest(&[14, 15, 14], &[]),
                 ],
             ),
-            clear,
+            clear(2),
         ),
         (
             "a name and the one eight above it are two",
@@ -374,8 +391,277 @@ fn nest_rules() -> Vec<Case> {
                     &nest(&[7, 15], &[]),
                 ],
             ),
-            ring(1, 7),
+            ring(1, 7, [50, 0, 2]),
         ),
+    ]
+    .into_iter()
+    .map(|(name, table, answer)| Case {
+        name,
+        table,
+        answer,
+    })
+    .collect()
+}
+
+/// Items that take two locks in opposite order, the routine's thread and a fork of it: a
+/// ring at both names.
+const RING: [u8; 16] = [
+    NEW, NEW, FORK, LOCK, 1, LOCK, 2, END, END, END, LOCK, 2, LOCK, 1, END, END,
+];
+
+/// A table of routines without parameters that run these items.
+fn plain(bodies: &[&[u8]]) -> Vec<u8> {
+    let section: Vec<u8> = bodies
+        .iter()
+        .flat_map(|items| [items, &[END][..]].concat())
+        .collect();
+    assemble(&vec![0; bodies.len()], &section)
+}
+
+/// A table of `reached` routines: routine 0 calls each of the others. The first `count`
+/// have no ring, the rest have one.
+fn without_ring(count: usize, reached: usize) -> Vec<u8> {
+    let mut bodies: Vec<Vec<u8>> = (0..reached)
+        .map(|routine| {
+            if routine < count {
+                vec![]
+            } else {
+                RING.to_vec()
+            }
+        })
+        .collect();
+    bodies[0].extend((1..reached).flat_map(|routine| [CALL, routine as u8]));
+    let bodies: Vec<&[u8]> = bodies.iter().map(Vec::as_slice).collect();
+    plain(&bodies)
+}
+
+/// Tables that tell which routines a share counts, what it counts of them, and how it is
+/// reckoned.
+pub fn share_rules() -> Vec<Case> {
+    let one_then_two = [&nest(&[1, 2], &[])[..], &[END]].concat();
+    // A fork locks `low`, then `high`, and the routine's thread the other way round.
+    let opposite = |low, high| {
+        [
+            &fork(&nest(&[low, high], &[]))[..],
+            &nest(&[high, low], &[]),
+            &[END],
+        ]
+        .concat()
+    };
+    // (1, 2) several over a local 3.
+    let several = [
+        &[NEW][..],
+        &fork(&nest(&[1, 3], &[])),
+        &nest(&[3, 2], &[]),
+        &[END],
+    ]
+    .concat();
+    // Routine 0 runs these items, which call routine 1, and routine 1 has a ring.
+    let called_in = |items: &[u8]| plain(&[items, &RING]);
+    let call = [CALL, 1];
+    let fifteen_choices = (0..15).fold(fork(&call), |inside, _| choice(&inside, &[]));
+    // Routine 0 calls routine 63, or none, and the last ten have a ring.
+    let mut of_64 = vec![&[][..]; MAX_ROUTINES - 10];
+    of_64.extend([&RING[..]; 10]);
+    let one_of_64 = plain(&of_64);
+    of_64[0] = &[CALL, 63];
+    let two_of_64 = plain(&of_64);
+
+    [
+        // The routines that count.
+        (
+            "a routine without a ring that no call reaches does not count",
+            plain(&[&[], &[]]),
+            clear(1),
+        ),
+        (
+            "a routine with a ring that no call reaches does not count",
+            plain(&[&call, &[], &RING]),
+            clear(2),
+        ),
+        (
+            "reached and not reached, with a ring and without",
+            plain(&[&call, &RING, &[], &RING]),
+            ring(1, 1, [50, 0, 2]),
+        ),
+        (
+            "calls of a routine that no call reaches reach nothing",
+            plain(&[&[], &[CALL, 0, CALL, 1, CALL, 2], &RING]),
+            clear(1),
+        ),
+        (
+            "routine 0 has a ring and those that it calls have none",
+            plain(&[&[&RING[..], &[CALL, 1, CALL, 2]].concat(), &[], &[]]),
+            ring(0, 1, [66, 2, 3]),
+        ),
+        (
+            "routine 0 has no ring and those that it calls have one",
+            plain(&[&[CALL, 1, CALL, 2], &RING, &RING]),
+            ring(1, 1, [33, 1, 3]),
+        ),
+        (
+            "a routine reached only over another",
+            plain(&[&call, &[CALL, 2], &RING]),
+            ring(2, 1, [66, 2, 3]),
+        ),
+        (
+            "a routine reached over two higher ones",
+            plain(&[&[CALL, 3], &RING, &[CALL, 1], &[CALL, 2]]),
+            ring(1, 1, [75, 0, 4]),
+        ),
+        (
+            "a routine called three times counts once",
+            called_in(&[CALL, 1, CALL, 1, CALL, 1]),
+            ring(1, 1, [50, 0, 2]),
+        ),
+        (
+            "a call behind one that does not return, and routine 0 counts once",
+            called_in(&[CALL, 0, CALL, 1]),
+            ring(1, 1, [50, 0, 2]),
+        ),
+        (
+            "recursion over three routines",
+            plain(&[
+                &call,
+                &[&RING[..], &[CALL, 1, CALL, 2]].concat(),
+                &[CALL, 2, CALL, 1, CALL, 0],
+            ]),
+            ring(1, 1, [66, 2, 3]),
+        ),
+        (
+            "a call in a fork reaches",
+            called_in(&fork(&call)),
+            ring(1, 1, [50, 0, 2]),
+        ),
+        (
+            "a call in a first alternative reaches",
+            called_in(&choice(&call, &[])),
+            ring(1, 1, [50, 0, 2]),
+        ),
+        (
+            "a call in a second alternative reaches",
+            called_in(&choice(&[], &call)),
+            ring(1, 1, [50, 0, 2]),
+        ),
+        (
+            "a call in a lock block reaches",
+            called_in(&[&[NEW][..], &nest(&[1], &call)].concat()),
+            ring(1, 1, [50, 0, 2]),
+        ),
+        (
+            "a call in the sixteenth block reaches",
+            called_in(&fifteen_choices),
+            ring(1, 1, [50, 0, 2]),
+        ),
+        (
+            "a call behind a block reaches",
+            called_in(&[&fork(&[])[..], &call].concat()),
+            ring(1, 1, [50, 0, 2]),
+        ),
+        (
+            "a call with names and one without",
+            assemble(
+                &[0, 1, 0],
+                &[
+                    &[NEW, CALL, 1, 1, CALL, 2, END],
+                    &nest(&[1], &[])[..],
+                    &[END],
+                    &RING,
+                    &[END],
+                ]
+                .concat(),
+            ),
+            ring(2, 1, [66, 2, 3]),
+        ),
+        (
+            "a name that is the code of a call, before a code that is a routine",
+            plain(&[&[&[NEW; 6], &nest(&[6, 1], &[])[..]].concat(), &[], &RING]),
+            clear(1),
+        ),
+        ("one of 64 routines is reached", one_of_64, clear(1)),
+        (
+            "the first and the last of 64 routines are reached",
+            two_of_64,
+            ring(63, 1, [50, 0, 2]),
+        ),
+        // Those of them that have no ring.
+        (
+            "pairs of a row are no ring",
+            called(&[2], &[&one_then_two]),
+            clear(2),
+        ),
+        (
+            "a pair labelled several is no ring",
+            called(&[2], &[&several]),
+            clear(2),
+        ),
+        (
+            "a ring at locals of a routine with a parameter",
+            called(&[1], &[&[&[NEW, NEW], &opposite(2, 3)[..]].concat()]),
+            ring(1, 2, [50, 0, 2]),
+        ),
+        (
+            "a ring at parameters, and so in the caller too",
+            called(&[2], &[&opposite(1, 2)]),
+            ring(0, 1, [0, 0, 2]),
+        ),
+        (
+            "routines above the first with a ring count too",
+            plain(&[&[CALL, 3, CALL, 1, CALL, 2], &RING, &[], &[]]),
+            ring(1, 1, [75, 0, 4]),
+        ),
+        // The reckoning.
+        (
+            "3 of 3 have no ring: nothing is left over",
+            without_ring(3, 3),
+            clear(3),
+        ),
+        (
+            "2 of 3 have no ring: the percentage is rounded down",
+            without_ring(2, 3),
+            ring(2, 1, [66, 2, 3]),
+        ),
+        (
+            "1 of 6 have no ring: the remainder stays in sixths",
+            without_ring(1, 6),
+            ring(1, 1, [16, 4, 6]),
+        ),
+        (
+            "6 of 7 have no ring: the percentage is not six times that of one",
+            without_ring(6, 7),
+            ring(6, 1, [85, 5, 7]),
+        ),
+        (
+            "5 of 8 have no ring: half a percent is left over",
+            without_ring(5, 8),
+            ring(5, 1, [62, 4, 8]),
+        ),
+        (
+            "29 of 50 have no ring: 58 percent exactly",
+            without_ring(29, 50),
+            ring(29, 1, [58, 0, 50]),
+        ),
+        (
+            "0 of 64 have no ring",
+            without_ring(0, 64),
+            ring(0, 1, [0, 0, 64]),
+        ),
+        (
+            "1 of 64 have no ring",
+            without_ring(1, 64),
+            ring(1, 1, [1, 36, 64]),
+        ),
+        (
+            "21 of 64 have no ring",
+            without_ring(21, 64),
+            ring(21, 1, [32, 52, 64]),
+        ),
+        (
+            "63 of 64 have no ring",
+            without_ring(63, 64),
+            ring(63, 1, [98, 28, 64]),
+        ),
+        ("64 of 64 have no ring", without_ring(64, 64), clear(64)),
     ]
     .into_iter()
     .map(|(name, table, answer)| Case {
@@ -388,8 +674,6 @@ fn nest_rules() -> Vec<Case> {
 
 /// What a place, a label, a call and a row are.
 fn pair_rules() -> Vec<Case> {
-    let clear = Answer::Clear;
-    let ring = |routine, name| Answer::Ring { routine, name };
     let one_then_two = [LOCK, 1, LOCK, 2, END, END, END];
     let fork_one_then_two = [FORK, LOCK, 1, LOCK, 2, END, END, END, END];
     // (1, 2) several over a local 3.
@@ -421,12 +705,12 @@ fn pair_rules() -> Vec<Case> {
             &[2],
             &[&[LOCK, 1, FORK, LOCK, 2, END, LOCK, 2, END, END, END, END]],
         ),
-        clear,
+        clear(2),
     );
     put(
         "the running thread keeps its lock past a fork",
         called(&[2], &[&[LOCK, 1, FORK, END, LOCK, 2, END, END, END]]),
-        clear,
+        clear(2),
     );
     put(
         "a call in a fork without a lock drops name 0, and own becomes the fork",
@@ -437,7 +721,7 @@ fn pair_rules() -> Vec<Case> {
                 &one_then_two,
             ],
         ),
-        clear,
+        clear(3),
     );
     put(
         "a call in a fork with a lock puts it for name 0",
@@ -448,7 +732,7 @@ fn pair_rules() -> Vec<Case> {
                 &[LOCK, 1, END, END],
             ],
         ),
-        clear,
+        clear(3),
     );
     put(
         "a fork and what it calls are one thread",
@@ -459,7 +743,7 @@ fn pair_rules() -> Vec<Case> {
                 LOCK, 2, LOCK, 1, END, END, END,
             ],
         ),
-        clear,
+        clear(2),
     );
     put(
         "two forks are two threads",
@@ -470,7 +754,7 @@ fn pair_rules() -> Vec<Case> {
                 FORK, LOCK, 2, LOCK, 1, END, END, END, END,
             ],
         ),
-        ring(0, 1),
+        ring(0, 1, [0, 0, 1]),
     );
     put(
         "two calls in one fork are one thread",
@@ -482,7 +766,7 @@ fn pair_rules() -> Vec<Case> {
             ]
             .concat(),
         ),
-        clear,
+        clear(2),
     );
     put(
         "two calls that fork are two threads",
@@ -494,7 +778,7 @@ fn pair_rules() -> Vec<Case> {
             ]
             .concat(),
         ),
-        ring(0, 1),
+        ring(0, 1, [50, 0, 2]),
     );
     put(
         "unknown stays unknown in a fork",
@@ -505,7 +789,7 @@ fn pair_rules() -> Vec<Case> {
                 &fork_one_then_two,
             ],
         ),
-        clear,
+        clear(3),
     );
     put(
         "the alternatives of a choice are put together",
@@ -515,32 +799,32 @@ fn pair_rules() -> Vec<Case> {
                 CHOICE, LOCK, 1, LOCK, 2, END, END, OTHER, LOCK, 2, LOCK, 1, END, END, END, END,
             ]],
         ),
-        clear,
+        clear(2),
     );
     put(
         "a ring from a call combines further",
         called(&[2, 2], &[&aliasing, &several]),
-        ring(1, 1),
+        ring(1, 1, [66, 2, 3]),
     );
     put(
         "an own pair with equal ends is dropped",
         called(&[2, 2], &[&aliasing, &one_then_two]),
-        clear,
+        clear(3),
     );
     put(
         "an unknown pair with equal ends is dropped",
         called(&[2, 2], &[&aliasing, &fork_one_then_two]),
-        clear,
+        clear(3),
     );
     put(
         "a callee's ring stays with the callee",
         assemble(&[0, 0], &[&[CALL, 1, END], &two_locals[..]].concat()),
-        ring(1, 1),
+        ring(1, 1, [50, 0, 2]),
     );
     put(
         "a ring that calls do not reach",
         assemble(&[0, 0], &[&[END], &two_locals[..]].concat()),
-        clear,
+        clear(1),
     );
     put(
         "a ring reached over a higher routine, from inside a block",
@@ -553,7 +837,7 @@ fn pair_rules() -> Vec<Case> {
             ]
             .concat(),
         ),
-        ring(1, 1),
+        ring(1, 1, [66, 2, 3]),
     );
     put(
         "the lowest routine before the lowest name",
@@ -567,7 +851,7 @@ fn pair_rules() -> Vec<Case> {
             ]
             .concat(),
         ),
-        ring(1, 7),
+        ring(1, 7, [33, 1, 3]),
     );
     put(
         "a ring at the highest names",
@@ -580,7 +864,7 @@ fn pair_rules() -> Vec<Case> {
             ]
             .concat(),
         ),
-        ring(1, 14),
+        ring(1, 14, [50, 0, 2]),
     );
     put(
         "a chain over locals, each step by another thread",
@@ -594,7 +878,7 @@ fn pair_rules() -> Vec<Case> {
                 FORK, LOCK, 5, LOCK, 2, END, END, END, END,
             ]],
         ),
-        clear,
+        clear(2),
     );
     put(
         "a ring that needs a name twice on the way",
@@ -607,7 +891,7 @@ fn pair_rules() -> Vec<Case> {
                 FORK, LOCK, 3, LOCK, 2, END, END, LOCK, 2, LOCK, 3, END, END, END, END,
             ],
         ),
-        ring(0, 1),
+        ring(0, 1, [0, 0, 1]),
     );
     // Routine r calls routine r + 1 with its names exchanged; the last one locks.
     let mut counts = vec![0];
@@ -618,7 +902,11 @@ fn pair_rules() -> Vec<Case> {
     }
     counts.push(2);
     section.extend(one_then_two);
-    put("a long chain of calls", assemble(&counts, &section), clear);
+    put(
+        "a long chain of calls",
+        assemble(&counts, &section),
+        clear(64),
+    );
     put(
         "recursion that turns three names round",
         assemble(
@@ -628,7 +916,7 @@ fn pair_rules() -> Vec<Case> {
                 LOCK, 1, LOCK, 2, END, END, CALL, 1, 2, 3, 1, END,
             ],
         ),
-        clear,
+        clear(2),
     );
     all
 }

@@ -4,7 +4,7 @@
 //! low byte first, and the table's bytes.
 
 use crate::cases::{limits, rules, worked};
-use crate::generate::{boundaries, of_kind, Kind, Rng};
+use crate::generate::{self, boundaries, of_kind, Kind, Rng};
 use crate::limits::{MAX_ROUTINES, ROW_BYTES};
 use crate::listing_with;
 
@@ -15,11 +15,11 @@ pub struct Frame {
     pub table: Vec<u8>,
 }
 
-/// The seed of the random tables.
+/// The seed of the random tables among the fixed frames.
 const SEED: u64 = 1;
 
 /// How many random tables there are of each kind.
-const RANDOM: [(Kind, usize); 8] = [
+const RANDOM: [(Kind, usize); 9] = [
     (Kind::Small, 240),
     (Kind::Deep, 40),
     (Kind::Wide, 30),
@@ -28,7 +28,14 @@ const RANDOM: [(Kind, usize); 8] = [
     (Kind::Arbitrary, 80),
     (Kind::Full, 6),
     (Kind::Nested, 120),
+    (Kind::Mixed, 120),
 ];
+
+/// Random frames alone take at most so many bytes. The program reads 262,144.
+const ROOM: usize = 240_000;
+
+/// Bytes of a frame before the table: two lengths of two bytes.
+const LENGTHS: usize = 4;
 
 /// A boundary table that is longer than this is left to `compare`.
 const MODERATE: usize = 600;
@@ -54,18 +61,25 @@ pub fn all() -> Vec<Frame> {
     for (kind, count) in RANDOM {
         for _ in 0..count {
             let table = of_kind(&mut rng, kind);
-            let lengths = buffers(&table);
-            // Half of the buffers are of the exact length.
-            let at = if rng.chance(50) {
-                0
-            } else {
-                rng.below(lengths.len())
-            };
-            frames.push(Frame {
-                buffer: lengths[at],
-                table,
-            });
+            frames.push(with_some_buffer(&mut rng, table));
         }
+    }
+    frames
+}
+
+/// Frames of the first random tables of a seed, of all kinds, as many as there is room for.
+pub fn random(seed: u64) -> Vec<Frame> {
+    let mut frames = Vec::new();
+    let mut rng = Rng::new(seed);
+    let mut room = ROOM;
+    for index in 0.. {
+        let (_, table) = generate::random(seed, index);
+        let bytes = LENGTHS + table.len();
+        if bytes > room {
+            break;
+        }
+        room -= bytes;
+        frames.push(with_some_buffer(&mut rng, table));
     }
     frames
 }
@@ -83,6 +97,20 @@ fn buffers(table: &[u8]) -> [usize; 7] {
         exact + ROW_BYTES,
         ROW_BYTES * MAX_ROUTINES,
     ]
+}
+
+/// One table with a buffer of any of these lengths, half of the time of the exact one.
+fn with_some_buffer(rng: &mut Rng, table: Vec<u8>) -> Frame {
+    let lengths = buffers(&table);
+    let at = if rng.chance(50) {
+        0
+    } else {
+        rng.below(lengths.len())
+    };
+    Frame {
+        buffer: lengths[at],
+        table,
+    }
 }
 
 /// One table with an exact buffer, one that is a byte too short, and a longer one.
@@ -119,7 +147,12 @@ pub fn listings(frames: &[Frame]) -> Vec<u8> {
 #[cfg(test)]
 mod tests {
     use super::*;
-    use crate::{analyse, analyse_by, Answer, Rules};
+    use crate::generate::KINDS;
+    use crate::limits::{READ_LIMIT, RING_BYTE};
+    use crate::model::reached;
+    use crate::table::read;
+    use crate::{analyse, analyse_by, Answer, Rules, Share, Verdict};
+    use std::collections::BTreeSet;
 
     #[test]
     fn frames_are_as_said() {
@@ -129,7 +162,10 @@ mod tests {
         };
         let frames = [frame(65, &[1, 0, 1, 0, 0]), frame(258, &[])];
         assert_eq!(encode(&frames), [65, 0, 5, 0, 1, 0, 1, 0, 0, 2, 1, 0, 0]);
-        assert_eq!(listings(&frames), b"routines 1\nclear\nrefused 1\n");
+        assert_eq!(
+            listings(&frames),
+            b"routines 1\nshare 100 0 1\nclear\nrefused 1\n"
+        );
     }
 
     #[test]
@@ -137,8 +173,10 @@ mod tests {
         let (mut clear, mut ring, mut refused) = (0, 0, [0; 16]);
         for frame in all() {
             match analyse(&frame.table, &mut vec![0; frame.buffer]) {
-                Answer::Clear => clear += 1,
-                Answer::Ring { .. } => ring += 1,
+                Answer::Accepted { verdict, .. } => match verdict {
+                    Verdict::Clear => clear += 1,
+                    Verdict::Ring { .. } => ring += 1,
+                },
                 Answer::Refused(number) => refused[number as usize] += 1,
             }
         }
@@ -159,6 +197,94 @@ mod tests {
             changed += usize::from(now != before);
         }
         assert!(changed >= 80, "{changed}");
+    }
+
+    /// What the share of a frame shows, and in which other readings the percentage, and so the
+    /// line, would be another.
+    #[derive(Clone, Copy)]
+    struct Shares {
+        share: Share,
+        unreached_ring: bool,
+        all_routines_differ: bool,
+        without_routine_0_differs: bool,
+        rounded_differs: bool,
+    }
+
+    impl Shares {
+        /// None where the frame is refused.
+        fn of(frame: &Frame) -> Option<Shares> {
+            let mut model = vec![0; frame.buffer];
+            let Answer::Accepted { share, .. } = analyse(&frame.table, &mut model) else {
+                return None;
+            };
+            let table = read(&frame.table).expect("accepted");
+            let reached = reached(&table);
+            let all: BTreeSet<usize> = (0..table.routines.len()).collect();
+            let called: BTreeSet<usize> = reached.iter().copied().filter(|&r| r != 0).collect();
+            let has_ring = |routine: usize| model[ROW_BYTES * routine + RING_BYTE] == 1;
+            // The percentage of other routines than the reached ones; none where there are none.
+            let percent = |routines: &BTreeSet<usize>| {
+                let c = routines.iter().filter(|&&r| !has_ring(r)).count() as u32;
+                (100 * c).checked_div(routines.len() as u32)
+            };
+            let right = Some(u32::from(share.percent));
+            Some(Shares {
+                share,
+                unreached_ring: all.difference(&reached).any(|&r| has_ring(r)),
+                all_routines_differ: percent(&all) != right,
+                without_routine_0_differs: percent(&called) != right,
+                rounded_differs: 2 * share.remainder >= share.reached,
+            })
+        }
+    }
+
+    #[test]
+    fn frames_meet_shares_of_every_kind() {
+        let all: Vec<Shares> = all().iter().filter_map(Shares::of).collect();
+        let met = |has: fn(&Shares) -> bool| all.iter().filter(|shares| has(shares)).count();
+        for (what, least, count) in [
+            ("remainder 0", 300, met(|met| met.share.remainder == 0)),
+            ("another one", 40, met(|met| met.share.remainder != 0)),
+            ("none clear", 80, met(|met| met.share.percent == 0)),
+            ("all clear", 200, met(|met| met.share.percent == 100)),
+            (
+                "some clear",
+                80,
+                met(|met| (1..100).contains(&met.share.percent)),
+            ),
+            ("one reached", 100, met(|met| met.share.reached == 1)),
+            ("64 reached", 10, met(|met| met.share.reached == 64)),
+            ("a ring not reached", 30, met(|met| met.unreached_ring)),
+            ("all routines", 30, met(|met| met.all_routines_differ)),
+            (
+                "without routine 0",
+                200,
+                met(|met| met.without_routine_0_differs),
+            ),
+            ("rounded", 20, met(|met| met.rounded_differs)),
+        ] {
+            assert!(count >= least, "{what}: {count}");
+        }
+        let reached: BTreeSet<u8> = all.iter().map(|met| met.share.reached).collect();
+        assert!(reached.len() >= 15, "{reached:?}");
+        assert_eq!((reached.first(), reached.last()), (Some(&1), Some(&64)));
+    }
+
+    #[test]
+    fn random_frames_are_of_all_kinds_and_fill_their_room() {
+        for seed in [1, 2] {
+            let frames = random(seed);
+            let bytes = encode(&frames).len();
+            assert!(bytes <= ROOM, "{bytes}");
+            // Less is left than the largest table needs.
+            assert!(bytes + LENGTHS + READ_LIMIT > ROOM, "{bytes}");
+            assert_eq!(frames, random(seed));
+            let kinds: BTreeSet<Kind> = (0..frames.len() as u64)
+                .map(|index| generate::random(seed, index).0)
+                .collect();
+            assert_eq!(kinds.len(), KINDS.len());
+        }
+        assert_ne!(random(1), random(2));
     }
 
     #[test]

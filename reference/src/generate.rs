@@ -78,9 +78,12 @@ pub enum Kind {
     Full,
     /// LOCK items on names of the LOCK blocks around them.
     Nested,
+    /// Up to 64 routines: some that calls reach and some not, some with a ring and some
+    /// without.
+    Mixed,
 }
 
-pub const KINDS: [(Kind, &str); 8] = [
+pub const KINDS: [(Kind, &str); 9] = [
     (Kind::Small, "small"),
     (Kind::Deep, "deep"),
     (Kind::Wide, "wide"),
@@ -89,13 +92,15 @@ pub const KINDS: [(Kind, &str); 8] = [
     (Kind::Arbitrary, "arbitrary"),
     (Kind::Full, "full"),
     (Kind::Nested, "nested"),
+    (Kind::Mixed, "mixed"),
 ];
 
 /// Table number `index` of a seed, with its kind.
 pub fn random(seed: u64, index: u64) -> (Kind, Vec<u8>) {
     let mut rng = Rng::indexed(seed, index);
     let kind = match rng.below(100) {
-        0..=26 => Kind::Small,
+        0..=16 => Kind::Small,
+        17..=26 => Kind::Mixed,
         27..=34 => Kind::Deep,
         35..=40 => Kind::Wide,
         41..=47 => Kind::Tangle,
@@ -119,6 +124,7 @@ pub fn of_kind(rng: &mut Rng, kind: Kind) -> Vec<u8> {
         Kind::Arbitrary => arbitrary(rng),
         Kind::Full => full(rng),
         Kind::Nested => nested(rng),
+        Kind::Mixed => mixed(rng),
     }
 }
 
@@ -487,6 +493,111 @@ fn nested(rng: &mut Rng) -> Vec<u8> {
     let counts = counts(rng, routines, most);
     let rooms: Vec<usize> = counts.iter().map(|_| rng.between(40, 140)).collect();
     valid(rng, &style, &counts, &rooms)
+}
+
+fn mixed(rng: &mut Rng) -> Vec<u8> {
+    let routines = match rng.below(10) {
+        0 => MAX_ROUTINES,
+        1 => rng.between(10, MAX_ROUTINES),
+        _ => rng.between(1, 9),
+    };
+    let most = rng.below(3);
+    let counts = counts(rng, routines, most);
+    let callees = callees(rng, routines);
+    // In a hundred: how many routines get a ring of their own.
+    let rings = [0, 10, 30, 60, 90, 100][rng.below(6)];
+    let mut section = Vec::new();
+    for (routine, callees) in callees.iter().enumerate() {
+        section.extend(mixed_body(rng, &counts, routine, callees, rings));
+    }
+    assemble(&counts, &section)
+}
+
+/// Which routines each routine calls, so that calls reach some from routine 0 and others
+/// not.
+fn callees(rng: &mut Rng, routines: usize) -> Vec<Vec<usize>> {
+    let mut callees = vec![vec![]; routines];
+    let mut others: Vec<usize> = (1..routines).collect();
+    let to_reach = if rng.chance(30) {
+        others.len()
+    } else {
+        rng.below(routines)
+    };
+    let mut reached = vec![0];
+    for _ in 0..to_reach {
+        // Any of the rest, called by any that is reached, often by routine 0.
+        let routine = others.remove(rng.below(others.len()));
+        let caller = if rng.chance(30) {
+            0
+        } else {
+            reached[rng.below(reached.len())]
+        };
+        callees[caller].push(routine);
+        reached.push(routine);
+    }
+    // More calls, which reach no more.
+    for &caller in &reached {
+        if rng.chance(25) {
+            callees[caller].push(reached[rng.below(reached.len())]);
+        }
+    }
+    for caller in others {
+        for _ in 0..rng.below(3) {
+            callees[caller].push(rng.below(routines));
+        }
+    }
+    callees
+}
+
+/// A body in which two threads take two locks in opposite order, so many times in a
+/// hundred, else in one order or not at all. Then it calls these routines.
+fn mixed_body(
+    rng: &mut Rng,
+    counts: &[u8],
+    routine: usize,
+    callees: &[usize],
+    rings: usize,
+) -> Vec<u8> {
+    let mut body = vec![code::NEW; 2];
+    let names = counts[routine] + 2;
+    let one = rng.between(1, names as usize) as u8;
+    let other = one % names + 1;
+    let opposite = rng.chance(rings);
+    let mut forks = 0;
+    if opposite || rng.chance(20) {
+        forks += 1;
+        body.push(code::FORK);
+        body.extend(two_locks(one, other));
+        body.push(code::END);
+        body.extend(if opposite {
+            two_locks(other, one)
+        } else {
+            two_locks(one, other)
+        });
+    }
+    for &callee in callees {
+        let mut call = vec![code::CALL, callee as u8];
+        call.extend((0..counts[callee]).map(|_| rng.between(1, names as usize) as u8));
+        // Half of the calls stand in a block.
+        let (open, close) = match rng.below(8) {
+            0 if forks < MAX_FORK => {
+                forks += 1;
+                (vec![code::FORK], vec![code::END])
+            }
+            1 => (vec![code::CHOICE], vec![code::OTHER, code::END]),
+            2 => (vec![code::CHOICE, code::OTHER], vec![code::END]),
+            3 => (vec![code::LOCK, one], vec![code::END]),
+            _ => (vec![], vec![]),
+        };
+        body.extend(joined(&[&open, &call, &close]));
+    }
+    body.push(code::END);
+    body
+}
+
+/// A LOCK on one name, and in it a LOCK on another.
+fn two_locks(outer: u8, inner: u8) -> [u8; 6] {
+    [code::LOCK, outer, code::LOCK, inner, code::END, code::END]
 }
 
 /// Changes a valid table in one to three places.
@@ -1103,8 +1214,10 @@ pub fn boundaries() -> Vec<Boundary> {
 #[cfg(test)]
 mod tests {
     use super::*;
+    use crate::model::reached;
     use crate::table::{read, Block, Item, Table};
     use crate::{check, limits::READ_LIMIT};
+    use std::collections::BTreeSet;
 
     #[test]
     fn boundary_tables_come_out_as_said() {
@@ -1135,6 +1248,15 @@ mod tests {
     }
 
     #[test]
+    fn random_tables_are_of_every_kind() {
+        let mut met = [0; KINDS.len()];
+        for index in 0..2_000 {
+            met[random(1, index).0 as usize] += 1;
+        }
+        assert!(met.iter().all(|&count| count >= 5), "{met:?}");
+    }
+
+    #[test]
     fn undamaged_tables_are_valid() {
         let mut rng = Rng::new(1);
         for _ in 0..500 {
@@ -1144,6 +1266,7 @@ mod tests {
                 Kind::Wide,
                 Kind::Tangle,
                 Kind::Nested,
+                Kind::Mixed,
             ] {
                 let table = of_kind(&mut rng, kind);
                 assert!(check(&table).is_ok(), "{kind:?} {table:?}");
@@ -1261,6 +1384,23 @@ mod tests {
         assert!(share(|nesting| nesting.second_alternative) >= 6);
         assert!(share(|nesting| nesting.fork_in_lock) >= 12);
         assert!(share(|nesting| nesting.name_of_parent) >= 15);
+    }
+
+    #[test]
+    fn mixed_tables_reach_any_number_of_routines() {
+        let mut rng = Rng::new(1);
+        let mut met = BTreeSet::new();
+        let (mut all, mut none_but_routine_0) = (0, 0);
+        for _ in 0..1_000 {
+            let table = read(&of_kind(&mut rng, Kind::Mixed)).expect("valid");
+            let (routines, reached) = (table.routines.len(), reached(&table).len());
+            all += usize::from(routines > 1 && reached == routines);
+            none_but_routine_0 += usize::from(routines > 1 && reached == 1);
+            met.insert(reached);
+        }
+        assert!(all >= 200, "{all}");
+        assert!(none_but_routine_0 >= 50, "{none_but_routine_0}");
+        assert!(met.len() >= 45 && met.contains(&MAX_ROUTINES), "{met:?}");
     }
 
     #[test]

@@ -1,10 +1,10 @@
-//! A second analyser of handler tables, written from document 01 and request #101
-//! of document 02, the customer's papers, alone; docs/FORMAT.md is our page on the
-//! same format.
+//! A second analyser of handler tables, written from document 01 and requests #101
+//! and #102 of document 02, the customer's papers, apart from what is under test;
+//! docs/FORMAT.md is our page on the same format.
 //!
 //! It is kept plain, to be compared against, not to be fast:
-//! `table` reads and refuses, `model` works out pairs, rows and the verdict,
-//! `listing` is the program's text. `cases` and `generate` give tables to try,
+//! `table` reads and refuses, `model` works out pairs, rows, the verdict and the
+//! share, `listing` is the program's text. `cases` and `generate` give tables to try,
 //! `frames` puts many of them into one input. `fast` and `groups` are there for
 //! the benchmark alone, and `archive` calls what is under test.
 
@@ -28,12 +28,31 @@ pub use model::Rules;
 /// What the analysis says of a table.
 #[derive(Clone, Copy, Debug, PartialEq, Eq)]
 pub enum Answer {
-    /// No reached routine has a ring.
+    /// What it says of a table that is not refused.
+    Accepted { verdict: Verdict, share: Share },
+    /// The number of the refusal.
+    Refused(u32),
+}
+
+/// Whether a reached routine has a ring.
+#[derive(Clone, Copy, Debug, PartialEq, Eq)]
+pub enum Verdict {
+    /// None has.
     Clear,
     /// The lowest reached routine with a ring, and its lowest ring name.
     Ring { routine: usize, name: u8 },
-    /// The number of the refusal.
-    Refused(u32),
+}
+
+/// How many of the reached routines have no ring, out of a hundred.
+#[derive(Clone, Copy, Debug, PartialEq, Eq)]
+pub struct Share {
+    /// The whole percentage.
+    pub percent: u8,
+    /// What a hundred times their count leaves over `percent` times `reached`;
+    /// always below `reached`.
+    pub remainder: u8,
+    /// The reached routines, routine 0 with them.
+    pub reached: u8,
 }
 
 /// The counts of routines and items, or the refusal's number (1 to 14).
@@ -42,7 +61,7 @@ pub fn check(table: &[u8]) -> Result<(usize, usize), u32> {
     Ok((table.routines.len(), table.items()))
 }
 
-/// Writes the model into the head of `buffer` and gives the verdict.
+/// Writes the model into the head of `buffer` and gives the verdict and the share.
 /// A refusal (1 to 15) leaves the whole buffer as it was.
 pub fn analyse(table: &[u8], buffer: &mut [u8]) -> Answer {
     analyse_by(Rules::InForce, table, buffer)
@@ -63,7 +82,10 @@ pub fn analyse_by(rules: Rules, table: &[u8], buffer: &mut [u8]) -> Answer {
     for (outcome, bytes) in outcomes.iter().zip(buffer.chunks_mut(ROW_BYTES)) {
         bytes.copy_from_slice(&model::row_bytes(outcome));
     }
-    model::verdict(&table, &outcomes)
+    Answer::Accepted {
+        verdict: model::verdict(&table, &outcomes),
+        share: model::share(&table, &outcomes),
+    }
 }
 
 /// `check` as one number.
@@ -74,13 +96,19 @@ pub fn check_number(table: &[u8]) -> u32 {
     }
 }
 
-/// `analyse` as one number.
+/// The verdict or the refusal of `analyse` as one number. The share is not in it.
 pub fn analyse_number(table: &[u8], buffer: &mut [u8]) -> u32 {
     match analyse(table, buffer) {
-        Answer::Clear => 0,
-        Answer::Ring { routine, name } => {
+        Answer::Accepted { verdict, .. } => verdict_number(verdict),
+        Answer::Refused(number) => number,
+    }
+}
+
+fn verdict_number(verdict: Verdict) -> u32 {
+    match verdict {
+        Verdict::Clear => 0,
+        Verdict::Ring { routine, name } => {
             RING_BASE + RING_ROUTINE * routine as u32 + RING_NAME * name as u32
         }
-        Answer::Refused(number) => number,
     }
 }

@@ -24,6 +24,9 @@ pub const CELL_OWN: u8 = 1;
 pub const CELL_UNKNOWN: u8 = 2;
 pub const CELL_SEVERAL: u8 = 4;
 
+/// The whole that a share is given in.
+pub const WHOLE: usize = 100;
+
 /// The name of the lock held before the call.
 pub const OUTER_NAME: u8 = 0;
 

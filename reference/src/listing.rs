@@ -1,7 +1,7 @@
 //! The program's text.
 
 use crate::limits::{MAX_ROUTINES, ROW_BYTES, ROW_SIDE};
-use crate::{analyse, check, Answer};
+use crate::{analyse, check, Answer, Share, Verdict};
 
 /// The lines printed for a table, each ended by 0A.
 pub fn listing(table: &[u8]) -> Vec<u8> {
@@ -11,11 +11,10 @@ pub fn listing(table: &[u8]) -> Vec<u8> {
 /// The same where the model buffer has `size` bytes.
 pub fn listing_with(table: &[u8], size: usize) -> Vec<u8> {
     let mut model = vec![0; size];
-    let last = match analyse(table, &mut model) {
+    let (verdict, share) = match analyse(table, &mut model) {
         // A refused table prints this line alone.
         Answer::Refused(number) => return format!("refused {number}\n").into_bytes(),
-        Answer::Clear => "clear\n".to_string(),
-        Answer::Ring { routine, name } => format!("ring {routine} {name}\n"),
+        Answer::Accepted { verdict, share } => (verdict, share),
     };
     let routines = check(table).map_or(0, |(routines, _)| routines);
     let mut text = format!("routines {routines}\n");
@@ -30,6 +29,23 @@ pub fn listing_with(table: &[u8], size: usize) -> Vec<u8> {
             }
         }
     }
-    text += &last;
+    text += &share_line(share);
+    text += &verdict_line(verdict);
     text.into_bytes()
+}
+
+fn share_line(share: Share) -> String {
+    let Share {
+        percent,
+        remainder,
+        reached,
+    } = share;
+    format!("share {percent} {remainder} {reached}\n")
+}
+
+fn verdict_line(verdict: Verdict) -> String {
+    match verdict {
+        Verdict::Clear => "clear\n".to_string(),
+        Verdict::Ring { routine, name } => format!("ring {routine} {name}\n"),
+    }
 }

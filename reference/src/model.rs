@@ -1,13 +1,13 @@
-//! The rules for pairs and labels, the least model and the verdict.
+//! The rules for pairs and labels, the least model, the verdict and the share.
 //!
 //! Naive on purpose: plain sets of pairs, recomputed until nothing changes.
 
 use std::collections::BTreeSet;
 
 use crate::limits::{CELL_OWN, CELL_SEVERAL, CELL_UNKNOWN, OUTER_NAME};
-use crate::limits::{RING_BYTE, ROW_BYTES, ROW_SIDE};
+use crate::limits::{RING_BYTE, ROW_BYTES, ROW_SIDE, WHOLE};
 use crate::table::{Block, Item, Routine, Table};
-use crate::Answer;
+use crate::{Share, Verdict};
 
 /// Who holds the one lock and wants the other.
 #[derive(Clone, Copy, Debug, PartialEq, Eq, PartialOrd, Ord)]
@@ -61,12 +61,12 @@ fn add(pairs: &mut Pairs, pair: Pair) -> bool {
     pairs.insert(pair)
 }
 
-/// Which rules are applied.
+/// Which rules for pairs are applied. The share is taken of what they give.
 #[derive(Clone, Copy, Debug, PartialEq, Eq)]
 pub enum Rules {
     /// Those in force: document 01 with request #101.
     InForce,
-    /// Document 01 alone, to tell what the request changes.
+    /// Document 01 alone, to tell what that request changes.
     Before101,
 }
 
@@ -298,13 +298,29 @@ pub fn reached(table: &Table) -> BTreeSet<usize> {
 }
 
 /// The lowest reached routine with a ring and its lowest ring name, else clear.
-pub fn verdict(table: &Table, outcomes: &[Outcome]) -> Answer {
+pub fn verdict(table: &Table, outcomes: &[Outcome]) -> Verdict {
     for routine in reached(table) {
         if let Some(&name) = outcomes[routine].rings.first() {
-            return Answer::Ring { routine, name };
+            return Verdict::Ring { routine, name };
         }
     }
-    Answer::Clear
+    Verdict::Clear
+}
+
+/// The share of the reached routines whose last byte is 0. Routine 0 is always
+/// reached, so there is one to divide by.
+pub fn share(table: &Table, outcomes: &[Outcome]) -> Share {
+    let reached = reached(table);
+    let without_ring = reached
+        .iter()
+        .filter(|&&routine| row_bytes(&outcomes[routine])[RING_BYTE] == 0);
+    let hundredfold = WHOLE * without_ring.count();
+    let reached = reached.len();
+    Share {
+        percent: (hundredfold / reached) as u8,
+        remainder: (hundredfold % reached) as u8,
+        reached: reached as u8,
+    }
 }
 
 /// The 65 bytes of one routine.

@@ -1,4 +1,4 @@
-//! The worked tables, refusals and rules of docs/FORMAT.md, one test for each.
+//! The worked tables a to j, refusals and rules of docs/FORMAT.md, one test for each.
 
 use reference::cases::{limits, rules, worked};
 use reference::generate::{assemble, random};
@@ -6,7 +6,8 @@ use reference::hex;
 use reference::limits::code::*;
 use reference::limits::{MAX_ROUTINES, READ_LIMIT, RING_BYTE, ROW_BYTES};
 use reference::table::read;
-use reference::{analyse, analyse_by, analyse_number, check, check_number, listing, Answer, Rules};
+use reference::{analyse, analyse_by, analyse_number, check, check_number, listing};
+use reference::{Answer, Rules, Share, Verdict};
 
 /// A byte that no model holds.
 const FILLER: u8 = 0xA5;
@@ -49,7 +50,7 @@ fn rule(name: &str) -> Vec<u8> {
 // The worked cases.
 
 #[test]
-fn worked_cases_get_their_verdicts() {
+fn worked_cases_get_their_verdicts_and_shares() {
     assert_eq!(worked().len(), 11);
     for case in worked() {
         assert_eq!(model(&case.table).0, case.answer, "{}", case.name);
@@ -71,23 +72,10 @@ fn case_b_has_a_ring_byte_alone() {
 }
 
 #[test]
-fn case_g_lists_as_shown() {
-    let table = case("g-philosophers");
-    assert_eq!(
-        listing(&table),
-        b"routines 2\npair 1 0 1 1\npair 1 0 2 1\npair 1 2 1 1\nclear\n"
-    );
-}
-
-#[test]
 fn case_h_has_its_row_1() {
     let table = case("h-philosophers-all-alike");
     assert_eq!(row(&table, 0), (vec![], 1));
     assert_eq!(row(&table, 1), (vec![(0, 1, 1), (0, 2, 5), (1, 2, 5)], 0));
-    assert_eq!(
-        listing(&table),
-        b"routines 2\npair 1 0 1 1\npair 1 0 2 5\npair 1 1 2 5\nring 0 1\n"
-    );
 }
 
 #[test]
@@ -102,9 +90,16 @@ fn case_j_is_clear_and_was_a_ring_before_request_101() {
     assert_eq!(row(&table, 0), (vec![], 0));
     assert_eq!(
         analyse_by(Rules::Before101, &table, &mut [0; ROW_BYTES]),
-        Answer::Ring {
-            routine: 0,
-            name: 1
+        Answer::Accepted {
+            verdict: Verdict::Ring {
+                routine: 0,
+                name: 1
+            },
+            share: Share {
+                percent: 0,
+                remainder: 0,
+                reached: 1
+            },
         }
     );
 }
@@ -259,7 +254,7 @@ fn numbers() {
 // The rules, one by one.
 
 #[test]
-fn rule_tables_get_their_verdicts() {
+fn rule_tables_get_their_verdicts_and_shares() {
     for case in rules() {
         assert_eq!(model(&case.table).0, case.answer, "{}", case.name);
     }
@@ -531,8 +526,42 @@ fn a_nest_tells_all_names_apart() {
 // The listing.
 
 #[test]
-fn listing_of_case_a() {
-    assert_eq!(listing(&case("a-empty-body")), b"routines 1\nclear\n");
+fn listings_of_worked_cases() {
+    let one_routine_clear = "routines 1\nshare 100 0 1\nclear\n";
+    let expected = [
+        ("a-empty-body", one_routine_clear),
+        (
+            "b-two-threads-opposite-order",
+            "routines 1\nshare 0 0 1\nring 0 1\n",
+        ),
+        ("c-two-threads-same-order", one_routine_clear),
+        ("d-one-thread-locks-twice", one_routine_clear),
+        ("e-two-threads-lock-twice", one_routine_clear),
+        (
+            "f-opposite-order-under-one-guard",
+            "routines 1\nshare 0 0 1\nring 0 2\n",
+        ),
+        (
+            "g-philosophers",
+            "routines 2\npair 1 0 1 1\npair 1 0 2 1\npair 1 2 1 1\nshare 100 0 2\nclear\n",
+        ),
+        (
+            "h-philosophers-all-alike",
+            "routines 2\npair 1 0 1 1\npair 1 0 2 5\npair 1 1 2 5\nshare 50 0 2\nring 0 1\n",
+        ),
+        (
+            "i-called-fork-one-lock-twice",
+            "routines 2\npair 1 1 2 2\npair 1 1 3 2\npair 1 2 3 2\nshare 50 0 2\nring 0 1\n",
+        ),
+        ("i-written-fork-one-lock-twice", one_routine_clear),
+        ("j-main-thread-locks-first-again", one_routine_clear),
+    ];
+    assert_eq!(worked().len(), expected.len());
+    for (case, (name, text)) in worked().iter().zip(expected) {
+        assert_eq!(case.name, name);
+        let given = String::from_utf8(listing(&case.table)).expect("text");
+        assert_eq!(given, text, "{name}");
+    }
 }
 
 #[test]

@@ -65,6 +65,15 @@ fn random_tables_of_nests() {
     }
 }
 
+#[test]
+fn random_tables_of_routines_reached_and_not() {
+    let mut rng = Rng::new(5);
+    for index in 0..3_000 {
+        let table = of_kind(&mut rng, Kind::Mixed);
+        hold(&format!("mixed table {index}"), &table);
+    }
+}
+
 /// Every prefix of some tables, and many values of each of their bytes.
 #[test]
 fn tables_cut_and_changed_everywhere() {

@@ -6,7 +6,7 @@ use reference::cases::{rules, worked};
 use reference::generate::{of_kind, random, Kind, Rng};
 use reference::model::{least_model, verdict};
 use reference::table::{read, Table};
-use reference::{Answer, Rules};
+use reference::{Rules, Verdict};
 
 /// The accepted ones of the worked tables, those for the rules, and random ones.
 fn tables() -> Vec<Table> {
@@ -43,7 +43,7 @@ fn rows_and_rings_are_among_those_before() {
 fn no_clear_table_becomes_a_ring() {
     let mut seen = BTreeSet::new();
     for table in tables() {
-        let is_clear = |rules| verdict(&table, &least_model(rules, &table)) == Answer::Clear;
+        let is_clear = |rules| verdict(&table, &least_model(rules, &table)) == Verdict::Clear;
         let (now, before) = (is_clear(Rules::InForce), is_clear(Rules::Before101));
         assert!(now || !before, "{table:?}");
         seen.insert((now, before));

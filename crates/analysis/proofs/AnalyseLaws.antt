@@ -9,6 +9,7 @@ use Rattle.table.specs.Check.{refused, accepted, checkTable}
 use Rattle.table.specs.Constants.{row-bytes}
 use Rattle.analysis.specs.Answer.{short-buffer, JudgedAs, Analysed, Short, Fits}
 use Rattle.analysis.specs.declared.RingPlace.{RingPlace}
+use Rattle.analysis.specs.declared.Share.{Share}
 use Rattle.analysis.specs.declared.Verdict.{Verdict}
 use Rattle.analysis.specs.declared.Verdict.the-variants.{Ring}
 use Rattle.analysis.specs.declared.Answer.{Answer}
@@ -34,11 +35,11 @@ module _ (table before : List ℕ) where
     }
 
     pub judged-as : row-bytes * length P ≤ length before → (after : List ℕ) (verdict : Verdict)
-        → JudgedAs P before after verdict → Analysed table before after (Judged verdict)
-    judged-as s after verdict j = record {
+        (share : Share) → JudgedAs P before after verdict share → Analysed table before after (Judged verdict share)
+    judged-as s after verdict share j = record {
       refused-table = λ y g. absurd (let z : _≡_ {A = ℕ} 0 1 = cc in omega arith);
       refused-buffer = λ Q g l. absurd (let e : length P ≡ length Q = ap length (same Q g) in omega arith);
-      judged = λ Q g l. (verdict, refl, rw (same Q g) at j);
+      judged = λ Q g l. (verdict, share, refl, rw (same Q g) at j);
     }
 
 -- the numbers of a ring, where the verdict is known
@@ -46,8 +47,8 @@ pub short-ring : (v : Verdict) (ring : RingPlace) → Short v → v ≡ Ring rin
 short-ring v ring s e = rw e at s
 
 -- the verdict of an answer, where it is known
-pub short-verdict : (a : Answer) (v : Verdict) → Fits a → a ≡ Judged v → Short v
-short-verdict a v f e = rw e at f
+pub short-verdict : (a : Answer) (v : Verdict) (s : Share) → Fits a → a ≡ Judged v s → Short v
+short-verdict a v s f e = rw e at f
 
 pub small-refusal : (a : Answer) (y : ℕ) → Fits a → a ≡ Refused y → y ≤ 15
 small-refusal a y f e = let g : Fits (Refused y) = rw e at f in g .1

@@ -1,19 +1,19 @@
 -- The bodies of a table: each stands where the survey says, and the call masks give the routines that calls reach.
 use mathlib.Core.Path.{_≡_, refl, sym, ap, _∙_}
-use mathlib.Core.Logic.{_⊎_, inl, inr, ⊎-elim}
 use mathlib.Core.List.{List, [], _∷_, _++_}
-use Prim.Native.Nat.{ℕ, zero, suc, _+_, _≤_, _<_}
+use Prim.Native.Nat.{ℕ, zero, suc, _+_, _<_}
 use native.Mathlib.Omega.{arith}
-use lib.ListN.{length, getD, drop}
+use lib.ListN.{length, drop}
 use lib.Seq.{drop-drop, drop-at}
 use Rattle.table.specs.Constants.{END}
-use Rattle.table.specs.Program.{Code, end, new, lock, fork, choice, call, Program, params, body}
-use Rattle.table.specs.WellFormed.{Scoped, WellFormed}
+use Rattle.table.specs.Program.{Program, body}
+use Rattle.table.specs.WellFormed.{WellFormed}
 use Rattle.table.specs.Encoding.{encode, encodeBodies}
-use Rattle.rules.specs.Verdict.{Calls, Reached, first, then}
-use Rattle.grid.specs.Rows.{Has, Bits}
+use Rattle.rules.specs.Verdict.{Reached, first, then}
+use Rattle.rules.specs.laws.Verdict.{reached-within}
+use Rattle.grid.specs.Rows.{Bits}
 use Rattle.analysis.specs.laws.Bodies.{startOf, Surveyed}
-use Rattle.analysis.specs.laws.Reach.{CallBit, Reachable, main, next}
+use Rattle.analysis.specs.laws.Reach.{Reachable, main, next}
 
 -- the bytes from the start of a body on
 pub body-at : (P : Program) (r : ℕ) → r < length P
@@ -33,28 +33,7 @@ start-next (q ∷ []) zero l = omega arith
 start-next (q ∷ p ∷ P) zero l = omega arith
 start-next (q ∷ P) (suc r) l = let h = start-next P r (omega arith) in omega arith
 
--- a call of a scoped code is of a routine of the program
-calls-within : (P : Program) (k : ℕ) (s : List ℕ) (c : Code) (q : ℕ) → Scoped P k s c → Calls c q → q < length P
-calls-within P k s (new x c) q h w = calls-within P k (x ∷ s) c q (h .1) w
-calls-within P k s (lock x c d) q h (inl w) = calls-within P k s c q (h .1) w
-calls-within P k s (lock x c d) q h (inr w) = calls-within P k s d q (h .2) w
-calls-within P k s (fork i c d) q h (inl w) = calls-within P k s c q (h .0) w
-calls-within P k s (fork i c d) q h (inr w) = calls-within P k s d q (h .1) w
-calls-within P k s (choice a b c) q h (inl w) = calls-within P k s a q (h .0) w
-calls-within P k s (choice a b c) q h (inr (inl w)) = calls-within P k s b q (h .1) w
-calls-within P k s (choice a b c) q h (inr (inr w)) = calls-within P k s c q (h .2) w
-calls-within P k s (call r xs c) q h (inl e) = rw e (h .0)
-calls-within P k s (call r xs c) q h (inr w) = calls-within P k s c q (h .3) w
-
 module _ (P : Program) (wf : WellFormed P) where
-  pub body-calls : (r q : ℕ) → r < length P → Calls (body P r) q → q < length P
-  body-calls r q l w = calls-within P _ _ (body P r) q (wf .scoped r l) w
-
-  -- calls reach routines of the program alone
-  pub reached-within : (q : ℕ) → Reached P q → q < length P
-  reached-within q first = wf .some-routine
-  reached-within q (then {r = r} h w) = body-calls r q (reached-within r h) w
-
   module _ (starts calls : List ℕ) (sv : Surveyed P starts calls) where
     to-reached : (q : ℕ) → Reachable calls q → Reached P q
     to-reached q (main e) = rw e first
@@ -66,7 +45,7 @@ module _ (P : Program) (wf : WellFormed P) where
     from-reached : (q : ℕ) → Reached P q → Reachable calls q
     from-reached q first = main refl
     from-reached q (then {r = r} h w) =
-        let l = reached-within r h in
+        let l = reached-within P wf r h in
         let e = sv .calls-long in
         next (from-reached r h) (omega arith, sv .calls-from r q l w)
 

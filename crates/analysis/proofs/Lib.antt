@@ -1,6 +1,7 @@
 mod MaskLaws
 mod ReachLaws
 mod DueLaws
+mod JudgingLaws
 mod SettleLaws
 mod ModelLaws
 mod BodyLaws

@@ -1,10 +1,12 @@
--- Masks as numbers: a new highest bit is added as its power of two, and any bit is taken off in the same way.
+-- Masks as numbers: a new highest bit is added as its power of two, and any bit is taken off in the same way; what a
+-- mask has in common with a union that it is a part of.
 use mathlib.Core.Path.{_≡_, sym, ap, _∙_}
 use mathlib.Core.Logic.{_≢_, _⊎_, inl, inr}
-use Prim.Native.Nat.{ℕ, suc, _+_, _-_, _*_, _/_, _%_, _^_, _≤_, _<_}
+use Prim.Native.Nat.{ℕ, zero, suc, _+_, _-_, _*_, _/_, _%_, _^_, _≤_, _<_}
 use native.Mathlib.Nat.{div-eq-of-lt, div-eq-of-lt-le, div-eq-sub-div, mod-lt}
 use native.Mathlib.Omega.{arith}
 use native.Mathlib.Decide.{decLt}
+use lib.Bits.{bitAnd, bitOr, and-step, and-zero-r, or-step}
 use lib.Count.{leadingZeros, leading-top}
 use lib.Pow.{pow-pos, field, mod-mod-pow, shr-shr}
 use Rattle.table.specs.laws.ScopeMask.{grows, double, lower, shift-one}
@@ -129,3 +131,13 @@ module _ (m r : ℕ) (h : Has m r) where
     where
       off : (j : ℕ) → Has (m - 2 ^ r) j → j ≢ r
       off j k e = let b : Has (m - 2 ^ r) r = rw e at k in let d = down in omega arith
+
+-- a part of a union is all that the two have in common
+pub and-part : (k a b : ℕ) → b < 2 ^ k → bitAnd (bitOr a b) b ≡ b
+and-part zero a b l = let z : b ≡ 0 = omega arith in rw z (and-zero-r (bitOr a 0))
+and-part (suc k) a b l =
+    let d = double k in
+    let half : bitOr a b / 2 ≡ bitOr (a / 2) (b / 2) = omega (arith, or-step a b) in
+    let rest : bitAnd (bitOr a b / 2) (b / 2) ≡ b / 2 =
+    ap (λ (v : ℕ). bitAnd v (b / 2)) half ∙ and-part k (a / 2) (b / 2) (omega arith) in
+    omega (arith, and-step (bitOr a b) b, or-step a b)

@@ -10,12 +10,10 @@ use Rattle.table.specs.Program.{Program}
 use Rattle.rules.specs.Label.{Label, own, unknown, several}
 use Rattle.rules.specs.Model.{Row, Ring}
 use Rattle.rules.specs.Verdict.{Reached, Clear, RingAt}
-use Rattle.grid.specs.Rows.{Bits}
 use Rattle.rows.specs.Model.{Labelled, RingByte}
 use Rattle.rows.specs.laws.Fixpoint.{Settled, settled}
 use Rattle.table.specs.Constants.{row-bytes, row-names}
 use Rattle.analysis.specs.Answer.{Flag, Cell, Models}
-use Rattle.analysis.specs.laws.Due.{LowestRing as LowestRoutine}
 use Rattle.analysis.specs.laws.Settle.{RowsOf, Named, Fresh, Partly}
 
 -- a bit that is set exactly where Q holds
@@ -81,30 +79,30 @@ module _ (P : Program) (before model names : List ℕ) (part : Partly P before m
   pub no-ring : ((q : ℕ) → Reached P q → q < length P) → ((q : ℕ) → Reached P q → RingByte model q → ⊥) → Clear P
   no-ring within none q x h ring = none q h (ring-told q x (within q h) ring)
 
-  -- a ring, from the routines that calls reach and the lowest of them whose row tells of one
-  module _ (mask r : ℕ) (reach : Bits mask (Reached P)) (within : (q : ℕ) → Reached P q → q < length P)
-      (low : LowestRoutine model (length P) mask r) where
-    pub ring-at : r < length P → RingAt P r (getD names r 0) × (getD names r 0 < 16)
-    ring-at l = (
+  -- a ring, in the lowest of the routines that calls reach whose row tells of one
+  module _ (within : (q : ℕ) → Reached P q → q < length P) (r : ℕ) (reached : Reached P r) (told : RingByte model r)
+      (lowest : (q : ℕ) → q < r → Reached P q → RingByte model q → ⊥) where
+    name : Named P model r (getD names r 0)
+    name = fresh r (within r reached) .name
+
+    few : getD names r 0 < 16
+    few =
+        let some = part .ring-sound r (within r reached) told in
+        name .lowest (some .0) (all-settled .ring-from r (some .0) (some .1)) .1
+
+    lower : (q y : ℕ) → Reached P q → Ring P q y → r ≤ q
+    lower q y h z = elim (decLt q r) [
+      | yes p ↦ absurd (lowest q p h (ring-told q y (within q h) z))
+      | no p ↦ omega arith
+    ]
+
+    pub ring-at : RingAt P r (getD names r 0) × (getD names r 0 < 16)
+    ring-at = (
       record {
-        reached = reach .to r (low .found l .0);
+        reached = reached;
         ring = all-settled .ring-to r (getD names r 0) (name .ring few);
-        lowest-routine = λ q y h z. lower q y h z;
+        lowest-routine = lower;
         lowest-name = λ y h. name .lowest y (all-settled .ring-from r y h) .0;
       },
       few,
     )
-      where
-        name : Named P model r (getD names r 0)
-        name = fresh r l .name
-
-        few : getD names r 0 < 16
-        few =
-            let some = part .ring-sound r l (low .found l .1) in
-            name .lowest (some .0) (all-settled .ring-from r (some .0) (some .1)) .1
-
-        lower : (q y : ℕ) → Reached P q → Ring P q y → r ≤ q
-        lower q y h z = elim (decLt q r) [
-          | yes p ↦ absurd (low .lowest q p (reach .from q h) (ring-told q y (within q h) z))
-          | no p ↦ omega arith
-        ]

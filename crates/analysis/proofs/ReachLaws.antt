@@ -1,92 +1,141 @@
--- Laws of reachability over call masks: one more caller, and what a mask that no longer grows has.
-use mathlib.Core.Path.{_≡_, refl, sym}
+-- Laws of reachability over call masks: what holds while calls are followed, and what a mask with none left has.
+use mathlib.Core.Path.{_≡_, refl, ap}
 use mathlib.Core.Logic.{_⊎_, inl, inr, ⊎-elim}
 use mathlib.Core.List.{List}
-use Prim.Native.Nat.{ℕ, _+_, _≤_, _<_}
+use Prim.Native.Nat.{ℕ, _+_, _-_, _*_, _%_, _^_, _≤_, _<_}
 use native.Mathlib.Omega.{arith}
 use native.Mathlib.Decide.{ℕ-discrete}
 use lib.ListN.{length, getD}
-use lib.Bits.{bitOr}
+use lib.Bits.{bitAnd, bitOr, bitXor, or-lt, or-add-and, xor-add-and}
+use lib.Pow.{pow-pos}
+use Rattle.table.specs.laws.ScopeMask.{shift-one}
 use Rattle.grid.specs.Rows.{Has, Bits}
-use Rattle.grid.specs.laws.Masks.{or-le, has-left, has-right, has-or, pow-has}
-use Rattle.analysis.specs.laws.Reach.{CallBit, OneStep, StepBelow, Called, Reachable, main, next}
-
-module _ (calls : List ℕ) (mask : ℕ) where
-  pub no-caller : Bits mask (StepBelow calls mask 0)
-  no-caller = record {
-    to = λ q h. inl h;
-    from = λ q h. ⊎-elim (λ x. x) (λ x. absurd (let l : x .0 < 0 = x .1 in
-        omega arith)) h;
-  }
-
-  -- one caller more
-  wider : (r q : ℕ) → StepBelow calls mask r q → StepBelow calls mask (r + 1) q
-  wider r q (inl h) = inl h
-  wider r q (inr x) = inr (x .0, (let l : x .0 < r = x .1 in omega arith), x .2, x .3)
-
-  -- the last caller, or one before it
-  last : (r q : ℕ) → StepBelow calls mask (r + 1) q → StepBelow calls mask r q ⊎ (Has mask r × CallBit calls r q)
-  last r q (inl h) = inl (inl h)
-  last r q (inr x) = step (ℕ-discrete (x .0) r)
-    where
-      step : Dec (x .0 ≡ r) → StepBelow calls mask r q ⊎ (Has mask r × CallBit calls r q)
-      step (yes e) = inr (rw e at (x .2), rw e at (x .3))
-      step (no n) = inl (inr (x .0, (let l : x .0 < r + 1 = x .1 in omega arith), x .2, x .3))
-
-  caller : (r m : ℕ) → r < length calls → Has mask r → Bits m (StepBelow calls mask r)
-      → Bits (bitOr m (getD calls r 0)) (StepBelow calls mask (r + 1))
-  caller r m l h b = record {
-    to = λ q x. ⊎-elim (λ y. wider r q (b .to q y)) (λ y. inr (r, omega arith, h, (l, y)))
-        (has-or m (getD calls r 0) q x);
-    from = λ q x. ⊎-elim (λ y. has-left m (getD calls r 0) q (b .from q y))
-        (λ y. has-right m (getD calls r 0) q (y .1 .1)) (last r q x);
-  }
-
-  no-call : (r m : ℕ) → (Has mask r → ⊥) → Bits m (StepBelow calls mask r) → Bits m (StepBelow calls mask (r + 1))
-  no-call r m n b = record {
-    to = λ q x. wider r q (b .to q x);
-    from = λ q x. ⊎-elim (λ y. b .from q y) (λ y. absurd (n (y .0))) (last r q x);
-  }
-
-  -- a turn of the loop, past a routine of the mask or past another
-  pub caller-turn : (r m n : ℕ) → r < length calls → Has mask r → Bits m (StepBelow calls mask r) × (mask ≤ m)
-      → n ≡ bitOr m (getD calls r 0) → Bits n (StepBelow calls mask (r + 1)) × (mask ≤ n)
-  caller-turn r m n l h b e =
-      let g = or-le m (getD calls r 0) in let k = b .1 in (rw e (caller r m l h (b .0)), omega arith)
-
-  pub other-turn : (r m n : ℕ) → (Has mask r → ⊥) → Bits m (StepBelow calls mask r) × (mask ≤ m)
-      → n ≡ m → Bits n (StepBelow calls mask (r + 1)) × (mask ≤ n)
-  other-turn r m n h b e = rw e (no-call r m h (b .0), b .1)
-
-  pub all-callers : (r m : ℕ) → length calls ≤ r → Bits m (StepBelow calls mask r) → Bits m (OneStep calls mask)
-  all-callers r m l b = record {
-    to = λ q x. ⊎-elim (λ y. inl y) (λ y. inr (y .0, y .2, y .3)) (b .to q x);
-    from = λ q x. b .from q (⊎-elim (λ y. inl y)
-        (λ y. inr (y .0, (let k : y .0 < length calls = y .2 .0 in omega arith), y .1, y .2)) x);
-  }
+use Rattle.grid.specs.laws.Masks.{has-zero, has-left, has-right, has-or, pow-has, bits-beyond}
+use Rattle.analysis.specs.laws.Due.{Highest}
+use Rattle.analysis.specs.laws.Reach.{CallBit, Reachable, main, next, CanReach}
+use Rattle.analysis.proofs.MaskLaws.{and-part, has-top, less-bit}
 
 module _ (calls : List ℕ) where
-  -- every routine of the mask is reached, and routine 0 is in it
-  pub record Reaches (mask : ℕ) : Type 0 where
+  -- every routine of the mask is reached, and routine 0 is in it; what they call is in it too, but for the routines
+  -- that are left
+  pub record Followed (mask left : ℕ) : Type 0 where
     pub only : (q : ℕ) → Has mask q → Reachable calls q
     pub zero-in : Has mask 0
+    pub still : (q : ℕ) → Has left q → Has mask q
+    pub done : (r q : ℕ) → Has mask r → CallBit calls r q → Has left r ⊎ Has mask q
+    pub fits : mask < 18446744073709551616
 
-  pub one-reaches : Reaches 1
-  one-reaches = record { only = one; zero-in = refl }
-    where
-      one : (q : ℕ) → Has 1 q → Reachable calls q
-      one q h = main (pow-has 0 q h)
-
-  pub step-reaches : (mask m : ℕ) → Reaches mask → Called calls mask m → Reaches m
-  step-reaches mask m r k = record {
-    only = λ q h. ⊎-elim (λ x. r .only q x) (λ x. next (r .only (x .0) (x .1)) (x .2)) (k .bits .to q h);
-    zero-in = k .bits .from 0 (inl (r .zero-in));
+  -- routine 0 is left
+  followed-none : Followed 1 1
+  followed-none = record {
+    only = λ q h. main (pow-has 0 q h);
+    zero-in = refl;
+    still = λ q h. h;
+    done = λ r q h c. inl h;
+    fits = omega arith;
   }
 
-  -- a mask that does not grow has every routine that is reached
-  pub all-reached : (mask m : ℕ) → Reaches mask → Called calls mask m → m ≡ mask → Bits mask (Reachable calls)
-  all-reached mask m r k e = record { to = r .only; from = λ q h. inside q h }
+  -- a mask with none left has every routine that is reached
+  pub all-reached : (mask left : ℕ) → left ≡ 0 → Followed mask left → Bits mask (Reachable calls)
+  all-reached mask left e f = record { to = f .only; from = λ q h. inside q h }
     where
       inside : (q : ℕ) → Reachable calls q → Has mask q
-      inside q (main z) = rw z (r .zero-in)
-      inside q (next {r = p} h x) = rw e at (k .bits .from q (inr (p, inside p h, x)))
+      inside q (main z) = rw z (f .zero-in)
+      inside q (next {r = r} h c) = ⊎-elim (λ x. absurd (has-zero r (rw e at x))) (λ x. x) (f .done r q (inside r h) c)
+
+  -- a visit of routine r, one of those that are left: r is there, and what the mask and those left become
+  pub record Visit (mask left r : ℕ) : Type 0 where
+    pub there : r < length calls
+    pub small : r < 64
+    pub taken : (1 * 2 ^ r) % 18446744073709551616 ≤ left
+    pub again : Followed (bitOr (getD calls r 0) mask)
+        (bitOr (left - (1 * 2 ^ r) % 18446744073709551616) (bitXor (bitOr (getD calls r 0) mask) mask))
+    pub less :
+        2 * (18446744073709551616 - bitOr (getD calls r 0) mask)
+        + bitOr (left - (1 * 2 ^ r) % 18446744073709551616) (bitXor (bitOr (getD calls r 0) mask) mask)
+        < 2 * (18446744073709551616 - mask) + left
+
+  module _ (can : CanReach calls) (mask left r : ℕ) (f : Followed mask left) (top : Highest left r)
+      (small-calls : getD calls r 0 < 18446744073709551616) where
+    bit : Has left r
+    bit = has-top left r top
+
+    there : (q : ℕ) → Reachable calls q → q < length calls
+    there q (main e) = rw e (can .some)
+    there q (next {r = p} h c) = can .within p q c
+
+    called-there : r < length calls
+    called-there = there r (f .only r (f .still r bit))
+
+    small : r < 64
+    small = let l = called-there in let k = can .few in omega arith
+
+    bit-taken : (1 * 2 ^ r) % 18446744073709551616 ≤ left
+    bit-taken = rw (shift-one r small) (top .low)
+
+    abbrev to : ℕ
+    to = getD calls r 0
+
+    abbrev next-mask : ℕ
+    next-mask = bitOr to mask
+
+    abbrev new-ones : ℕ
+    new-ones = bitXor next-mask mask
+
+    abbrev next-left : ℕ
+    next-left = bitOr (left - (1 * 2 ^ r) % 18446744073709551616) new-ones
+
+    left-is : next-left ≡ bitOr (left - 2 ^ r) new-ones
+    left-is = ap (λ (v : ℕ). bitOr (left - v) new-ones) (shift-one r small)
+
+    next-fits : next-mask < 18446744073709551616
+    next-fits = or-lt 64 to mask small-calls (f .fits)
+
+    followed-more : Followed next-mask next-left
+    followed-more = record {
+      only = λ q h. ⊎-elim (λ x. next (f .only r (f .still r bit)) (called-there, x)) (λ x. f .only q x)
+          (has-or to mask q h);
+      zero-in = has-right to mask 0 (f .zero-in);
+      still = λ q h. ⊎-elim (λ x. has-right to mask q (f .still q (less-bit left r bit .to q x .1)))
+          (λ x. has-left to mask q (bits-beyond to mask .to q x .0))
+          (has-or (left - 2 ^ r) new-ones q (rw left-is at h));
+      done = λ p q h c. rw left-is (step p q h c (ℕ-discrete p r));
+      fits = next-fits;
+    }
+      where
+        old : (p q : ℕ) → (p ≡ r → ⊥) → Has mask p → CallBit calls p q
+            → Has (bitOr (left - 2 ^ r) new-ones) p ⊎ Has next-mask q
+        old p q n h c = ⊎-elim (λ x. inl (has-left (left - 2 ^ r) new-ones p (less-bit left r bit .from p (n, x))))
+            (λ x. inr (has-right to mask q x)) (f .done p q h c)
+
+        new : (p q : ℕ) → (p ≡ r → ⊥) → Has to p → CallBit calls p q → Dec (Has mask p)
+            → Has (bitOr (left - 2 ^ r) new-ones) p ⊎ Has next-mask q
+        new p q n h c (yes m) = old p q n m c
+        new p q n h c (no m) = inl (has-right (left - 2 ^ r) new-ones p (bits-beyond to mask .from p (h, m)))
+
+        step : (p q : ℕ) → Has next-mask p → CallBit calls p q → Dec (p ≡ r)
+            → Has (bitOr (left - 2 ^ r) new-ones) p ⊎ Has next-mask q
+        step p q h c (yes e) = inr (has-left to mask q (rw e at (c .1)))
+        step p q h c (no n) = ⊎-elim (λ x. new p q n x c (ℕ-discrete _ 1)) (λ x. old p q n x c) (has-or to mask p h)
+
+    -- what is new comes into the mask and to those that are left, and r is left no more
+    followed-less :
+        2 * (18446744073709551616 - next-mask) + next-left < 2 * (18446744073709551616 - mask) + left
+    followed-less =
+        let both : bitAnd next-mask mask ≡ mask = and-part 64 to mask (f .fits) in
+        let new-is = xor-add-and next-mask mask in
+        let sum = or-add-and (left - 2 ^ r) new-ones in
+        let low = top .low in
+        let some = pow-pos r in
+        let e = left-is in
+        let fits = next-fits in
+        omega arith
+
+    pub visit : Visit mask left r
+    visit = record { there = called-there; small = small; taken = bit-taken; again = followed-more; less = followed-less }
+
+  -- routine 0 was visited
+  pub followed-first : CanReach calls → getD calls 0 0 < 18446744073709551616
+      → Followed (bitOr (getD calls 0 0) 1) (bitXor (bitOr (getD calls 0 0) 1) 1)
+  followed-first can small-calls =
+      visit can 1 1 0 followed-none (record { low = omega arith; high = omega arith }) small-calls .again

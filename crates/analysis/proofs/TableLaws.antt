@@ -9,7 +9,9 @@ use Rattle.table.specs.Program.{Program}
 use Rattle.table.specs.Encoding.{encodeTable, encodeBodies, counts, twoBytes}
 use Rattle.table.specs.Check.{accepted, checkTable}
 use Rattle.table.specs.laws.Sound.{sound, counts-length}
-use Rattle.table.specs.laws.Accepts.{Bytes}
+use Rattle.table.specs.Answer.{checkedOf}
+use Rattle.table.specs.declared.Checked.the-variants.{Accepted}
+use Rattle.table.specs.laws.Accepts.{Bytes, accepted-few, accepted-of}
 use Rattle.analysis.specs.laws.Bodies.{Holds}
 
 module _ (P : Program) where
@@ -47,12 +49,33 @@ module _ (table : List ℕ) (bytes : Bytes table) (n : ℕ) (P : Program) (e : c
   is-table : table ≡ encodeTable P
   is-table = sound table P bytes e .0
 
-  pub sections-there : n + 3 ≤ length table
+  sections-there : n + 3 ≤ length table
   sections-there = let a = ap length is-table in let l = long P in omega arith
 
-  pub sections-hold : Holds P (take (n + 1 - 1) (drop 1 table)) (take (length table - (n + 3)) (drop (n + 3) table))
+  sections-hold : Holds P (take (n + 1 - 1) (drop 1 table)) (take (length table - (n + 3)) (drop (n + 3) table))
   sections-hold = record {
     params-are = rw (is-table, en) (first-part P);
     bytes-are = rw (is-table, en) (second-part P);
     limits = sound table P bytes e .1;
   }
+
+-- what is known of a table that the check accepts with n routines
+pub record AcceptedAs (table : List ℕ) (n : ℕ) : Type 0 where
+  pub program : Program
+  pub accepts : checkTable table ≡ accepted program
+  pub size : n ≡ length program
+  pub few : n ≤ 64
+  pub there : n + 3 ≤ length table
+  pub holds : Holds program (take (n + 1 - 1) (drop 1 table)) (take (length table - (n + 3)) (drop (n + 3) table))
+
+pub accepted-as : (table : List ℕ) (n items : ℕ) → Bytes table → Accepted n items ≡ checkedOf (checkTable table) → AcceptedAs table n
+accepted-as table n items bytes e =
+    let o = accepted-of (checkTable table) n items e in
+    record {
+      program = o .0;
+      accepts = o .1;
+      size = o .2;
+      few = let l = accepted-few table (o .0) bytes (o .1) .0 in let k : n ≡ length (o .0) = o .2 in omega arith;
+      there = sections-there table bytes n (o .0) (o .1) (o .2);
+      holds = sections-hold table bytes n (o .0) (o .1) (o .2);
+    }

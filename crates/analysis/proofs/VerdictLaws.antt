@@ -1,41 +1,39 @@
--- The verdict that is read off the rows is the one that the rules give, and a clear one promises safe runs.
-use mathlib.Core.Path.{_≡_}
-use mathlib.Core.Bool.{false}
+-- The verdict and the share that are read off the rows are those that the rules give, and a clear verdict promises safe
+-- runs.
+use mathlib.Core.Path.{_≡_, sym}
 use mathlib.Core.List.{List}
-use Prim.Native.Nat.{ℕ, _*_, _≤_, _<_}
+use Prim.Native.Nat.{ℕ, _*_, _^_, _≤_, _<_}
+use native.Mathlib.Nat.{div-add-mod', mod-lt}
 use native.Mathlib.Omega.{arith}
-use lib.ListN.{length, getD}
+use lib.ListN.{length}
+use lib.Bits.{bitOr, bitXor, or-lt, xor-lt}
+use lib.Count.{ones}
 use Rattle.table.specs.Program.{Program}
 use Rattle.table.specs.WellFormed.{WellFormed}
 use Rattle.table.specs.laws.Formed.{well-formed}
-use Rattle.rules.specs.Verdict.{Reached}
+use Rattle.rules.specs.Verdict.{Reached, first}
+use Rattle.rules.specs.Share.{Count, ReachedRingless}
+use Rattle.rules.specs.laws.Verdict.{body-calls, reached-within}
+use Rattle.rules.specs.laws.Share.{count-some}
 use Rattle.run.specs.laws.Safety.{clear-is-safe}
-use Rattle.grid.specs.Rows.{Bits}
+use Rattle.grid.specs.Rows.{Has, Bits}
+use Rattle.grid.specs.laws.Masks.{has-zero, bits-map, bits-beyond}
 use Rattle.rows.specs.Model.{RingByte}
+use Rattle.analysis.specs.Answer.{Says, Shares, Short}
+use Rattle.analysis.specs.declared.Share.{Share}
 use Rattle.analysis.specs.declared.Verdict.{Verdict}
 use Rattle.analysis.specs.declared.Verdict.the-variants.{Clear, Ring}
-use Rattle.analysis.specs.laws.Reach.{Reachable}
-use Rattle.analysis.specs.laws.Due.{Callers, AnyRing, LowestRing as LowestRoutine}
+use Rattle.analysis.specs.laws.Reach.{Reachable, CanReach}
+use Rattle.analysis.specs.laws.Due.{Callers}
+use Rattle.analysis.specs.laws.Judging.{RingRows, Tells, Divided}
+use Rattle.analysis.specs.laws.Settle.{Partly}
 use Rattle.analysis.specs.laws.Bodies.{Known, Finished, Pronounces, Settled}
 use Rattle.analysis.specs.laws.Bodies.{Linked, CanSettle, CanJudgeKnown, JudgesKnown}
-use Rattle.analysis.proofs.ModelLaws.{are-models, no-ring, ring-at}
-use Rattle.analysis.proofs.BodyLaws.{reached-within, reached-bits}
+use Rattle.analysis.proofs.ModelLaws.{are-models, ring-told, no-ring, ring-at}
+use Rattle.analysis.proofs.BodyLaws.{reached-bits}
+use Rattle.analysis.proofs.JudgingLaws.{count-bits}
 
 module _ (calls model names : List ℕ) where
-  -- the program is well formed, and its calls reach the routines of the mask
-  module _ (P : Program) (ks s starts : List ℕ) (known : Known P ks s starts calls) where
-    formed : WellFormed P
-    formed = well-formed P (known .holds .limits)
-
-    mask-reached : (mask : ℕ) → Bits mask (Reachable calls) → Bits mask (Reached P)
-    mask-reached mask b = reached-bits P formed starts calls (known .surveyed) mask b
-
-    within : (q : ℕ) → Reached P q → q < length calls
-    within q h =
-        let e = known .surveyed .calls-long in
-        let l = reached-within P formed q h in
-        omega arith
-
   pub rows-there : Finished calls model names → (length calls ≤ 64) × (65 * length calls ≤ length model)
   rows-there fin =
       let e = fin .known .surveyed .calls-long in
@@ -43,31 +41,103 @@ module _ (calls model names : List ℕ) where
       let g = fin .long in
       (omega arith, omega arith)
 
-  -- no row tells of a ring, or none of a routine that calls reach
-  says-clear : ((P : Program) (ks s starts : List ℕ) → Known P ks s starts calls → (q : ℕ) → Reached P q
-      → RingByte model q → ⊥)
-      → Pronounces calls model names Clear
-  says-clear none P ks s starts before known part = (
-    no-ring P before model names part (reached-within P (formed P ks s starts known)) (none P ks s starts known),
-    tt,
-  )
+  pub can-reach : Finished calls model names → CanReach calls
+  can-reach fin =
+      let e = fin .known .surveyed .calls-long in
+      let wf = well-formed (fin .program) (fin .known .holds .limits) in
+      record {
+        some = let l = wf .some-routine in omega arith;
+        few = rows-there fin .0;
+        within = λ r q c.
+            let l : r < length calls = c .0 in
+            let k : r < length (fin .program) = omega arith in
+            let w = body-calls (fin .program) wf r q k (fin .known .surveyed .calls-to r q k (c .1)) in
+            omega arith;
+      }
 
-  pub none-clear : AnyRing model (length calls) false → Pronounces calls model names Clear
-  none-clear none = says-clear (λ P ks s starts known q h. none q (within P ks s starts known q h))
+  -- what the masks of the reached routines, and of those of them with a ring, tell of a program that was surveyed
+  module _ (reached rings : ℕ) (reach : Bits reached (Reachable calls))
+      (found : RingRows model (length calls) reached rings) where
+    module _ (P : Program) (ks s starts before : List ℕ) (known : Known P ks s starts calls)
+        (part : Partly P before model names (λ r. ⊥)) where
+      formed : WellFormed P
+      formed = well-formed P (known .holds .limits)
 
-  module _ (mask r : ℕ) (reach : Bits mask (Reachable calls)) (low : LowestRoutine model (length calls) mask r) where
-    pub unreached-clear : length calls ≤ r → Pronounces calls model names Clear
-    unreached-clear l = says-clear (λ P ks s starts known q h. low .lowest q
-        (let k = within P ks s starts known q h in omega arith) (mask-reached P ks s starts known mask reach .from q h))
+      is-reached : Bits reached (Reached P)
+      is-reached = reached-bits P formed starts calls (known .surveyed) reached reach
 
-    pub says-ring : r < length calls
-        → Pronounces calls model names (Ring (record { routine = r; name = getD names r 0 }))
-    says-ring l P ks s starts before known part =
-        let e = known .surveyed .calls-long in
-        let f = known .holds .limits .few-routines in
-        let h = ring-at P before model names part mask r (mask-reached P ks s starts known mask reach)
-        (reached-within P (formed P ks s starts known)) (rw e at low) (omega arith) in
-        (h .0, (omega arith, h .1))
+      ring-row : (r : ℕ) → Reached P r → RingByte model r → Has rings r
+      ring-row r h b =
+          let e = known .surveyed .calls-long in
+          let l = reached-within P formed r h in
+          found .from r (omega arith, (is-reached .from r h, b))
+
+      says : (v : Verdict) → Tells rings names v → Says P v × Short v
+      says Clear e = (
+        no-ring P before model names part (reached-within P formed)
+            (λ q h b. has-zero q (rw e at (ring-row q h b))),
+        tt,
+      )
+      says (Ring ring) (low, l, e) =
+          let w = found .to (ring .routine) (low .bit) in
+          let h = ring-at P before model names part (reached-within P formed) (ring .routine)
+          (is-reached .to (ring .routine) (w .1 .0)) (w .1 .1)
+          (λ q k g b. low .lowest q k (ring-row q g b)) in
+          (rw e (h .0), (l, rw e (h .1)))
+
+      abbrev ringless : ℕ
+      ringless = bitXor (bitOr reached rings) rings
+
+      is-ringless : Bits ringless (ReachedRingless P)
+      is-ringless = bits-map
+          (λ r h. (
+            is-reached .to r (h .0),
+            λ x ring. h .1 (ring-row r (is-reached .to r (h .0))
+                (ring-told P before model names part r x (reached-within P formed r (is-reached .to r (h .0))) ring)),
+          ))
+          (λ r h. (
+            is-reached .from r (h .0),
+            λ g.
+                let some = part .ring-sound r (reached-within P formed r (h .0)) (found .to r g .1 .1) in
+                h .1 (some .0) (some .1),
+          ))
+          (bits-beyond reached rings)
+
+      module _ (low : reached < 2 ^ 64) (lows : rings < 2 ^ 64) where
+        ringless-fits : ringless < 2 ^ 64
+        ringless-fits = xor-lt 64 (bitOr reached rings) rings (or-lt 64 reached rings low lows) lows
+
+        counted : Count (Reached P) (ones reached)
+        counted = count-bits (Reached P) reached low is-reached
+
+        counted-ringless : Count (ReachedRingless P) (ones ringless)
+        counted-ringless = count-bits (ReachedRingless P) ringless ringless-fits is-ringless
+
+        some-reached : 0 < ones reached
+        some-reached = count-some 0 first counted
+
+        shares : (share : Share) → Divided (ones ringless) (ones reached) share → Shares P share
+        shares share d = rw (d .0, d .1, d .2) (record {
+          c = ones ringless;
+          reached = counted;
+          ringless = counted-ringless;
+          sum = sym (div-add-mod' (100 * ones ringless) (ones reached));
+          below = mod-lt (100 * ones ringless) some-reached;
+        })
+
+    module _ (low : reached < 2 ^ 64) (lows : rings < 2 ^ 64) where
+      -- there is a reached routine to divide by
+      pub some-counted : Finished calls model names → 0 < ones reached
+      some-counted fin =
+          some-reached (fin .program) (fin .ks) (fin .s) (fin .starts) (fin .before) (fin .known) (fin .partly) low lows
+
+      -- the verdict and the share are those of the program
+      pub pronounced : (c m : ℕ) (verdict : Verdict) (share : Share)
+          → c ≡ ones (bitXor (bitOr reached rings) rings) → m ≡ ones reached
+          → Tells rings names verdict → Divided c m share → Pronounces calls model names verdict share
+      pronounced c m verdict share ec em tells d P ks s starts before known part =
+          let v = says P ks s starts before known part verdict tells in
+          (v .0, shares P ks s starts before known part low lows share (rw (ec, em) at d), v .1)
 
 pub few-calls : (ks s starts calls model : List ℕ) → CanJudgeKnown ks s starts calls model → length calls ≤ 64
 few-calls ks s starts calls model p =
@@ -93,9 +163,9 @@ module _ (ks s starts calls callers : List ℕ) (turned : Callers calls callers)
 
   -- what the judgement leaves
   module _ (before after names : List ℕ) (settled : Settled ks s starts callers before after names) where
-    pub judged-known : (verdict : Verdict) → Pronounces calls after names verdict
-        → JudgesKnown ks s starts calls before after verdict
-    judged-known verdict pr P known l =
+    pub judged-known : (verdict : Verdict) (share : Share) → Pronounces calls after names verdict share
+        → JudgesKnown ks s starts calls before after verdict share
+    judged-known verdict share pr P known l =
         let part = settled P (linked P known) l in
         let says = pr P ks s starts before known part in (
           record {
@@ -103,9 +173,10 @@ module _ (ks s starts calls callers : List ℕ) (turned : Callers calls callers)
             same-length = part .long;
             rest = part .rest;
             says = says .0;
+            shares = says .1;
             safe = λ e. clear-is-safe P (well-formed P (known .holds .limits)) (rw e at (says .0));
           },
-          says .1,
+          says .2,
         )
 
     pub finished-from : CanJudgeKnown ks s starts calls before → length after ≡ length before

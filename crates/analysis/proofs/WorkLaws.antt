@@ -2,7 +2,7 @@
 use mathlib.Core.Path.{_≡_, ap, _∙_}
 use mathlib.Core.Logic.{⊎-elim}
 use mathlib.Core.List.{List, [], _++_}
-use Prim.Native.Nat.{ℕ, _+_, _*_, _≤_, _<_}
+use Prim.Native.Nat.{ℕ, _*_, _≤_, _<_}
 use native.Mathlib.Omega.{arith}
 use native.Mathlib.Decide.{decLt}
 use lib.ListN.{length, getD, drop, List·getD-eq-default}
@@ -23,7 +23,7 @@ use Rattle.pairs.specs.Gains.{Gains}
 use Rattle.pairs.specs.Contracts.{Records}
 use Rattle.analysis.specs.laws.Settle.{RowsOf, GridOf, Named}
 use Rattle.analysis.specs.laws.Bodies.{BodyReady, Works}
-use Rattle.analysis.proofs.BodyLaws.{body-calls}
+use Rattle.rules.specs.laws.Verdict.{body-calls}
 use Rattle.analysis.proofs.LoopLaws.{routines}
 use Rattle.analysis.proofs.SurveyLaws.{rest, fine-here, bytes-here, is-body}
 

@@ -10,9 +10,11 @@ use Rattle.table.specs.Check.{refused, accepted, checkTable}
 use Rattle.rules.specs.Label.{own, unknown, several}
 use Rattle.rules.specs.Model.{Row, Ring}
 use Rattle.rules.specs.Verdict.{Clear, RingAt}
+use Rattle.rules.specs.Share.{ShareOf}
 use Rattle.run.specs.Run.{start, run, Turn, Safe}
 use Rattle.analysis.specs.declared.Verdict.{Verdict}
 use Rattle.analysis.specs.declared.Verdict.the-variants.{Clear as SaysClear, Ring as SaysRing}
+use Rattle.analysis.specs.declared.Share.{Share}
 use Rattle.analysis.specs.declared.Answer.{Answer}
 use Rattle.analysis.specs.declared.Answer.the-variants.{Judged, Refused}
 
@@ -46,16 +48,21 @@ abbrev pub Says : Program → Verdict → Type 0
 Says P SaysClear = Clear P
 Says P (SaysRing ring) = RingAt P (ring .routine) (ring .name)
 
+-- the share is that of P
+abbrev pub Shares : Program → Share → Type 0
+Shares P share = ShareOf P (share .percent) (share .remainder) (share .reached)
+
 -- every run of P is safe
 abbrev pub SafeRuns : Program → Type 0
 SafeRuns P = (turns : List Turn) → Safe (run P (start P) turns)
 
 -- what is left where the table holds P and its model fits the buffer
-pub record JudgedAs (P : Program) (before after : List ℕ) (verdict : Verdict) : Type 0 where
+pub record JudgedAs (P : Program) (before after : List ℕ) (verdict : Verdict) (share : Share) : Type 0 where
   pub model : Models P after
   pub same-length : length after ≡ length before
   pub rest : (i : ℕ) → row-bytes * length P ≤ i → getD after i 0 ≡ getD before i 0
   pub says : Says P verdict
+  pub shares : Shares P share
   pub safe : verdict ≡ SaysClear → SafeRuns P
 
 -- a refusal: its number alone, and the buffer as it was
@@ -68,7 +75,7 @@ pub record Analysed (table before after : List ℕ) (answer : Answer) : Type 0 w
   pub refused-buffer : (P : Program) → checkTable table ≡ accepted P → length before < row-bytes * length P
       → RefusedBy short-buffer before after answer
   pub judged : (P : Program) → checkTable table ≡ accepted P → row-bytes * length P ≤ length before
-      → (verdict : Verdict) × (answer ≡ Judged verdict) × JudgedAs P before after verdict
+      → (verdict : Verdict) × (share : Share) × (answer ≡ Judged verdict share) × JudgedAs P before after verdict share
 
 -- a ring's numbers are those of a routine and a name of a table
 abbrev pub Short : Verdict → Type 0
@@ -77,7 +84,7 @@ Short (SaysRing ring) = (ring .routine < most-routines) × (ring .name < most-na
 
 -- the same of an answer; a refusal is one of those from 1 to the last
 abbrev pub Fits : Answer → Type 0
-Fits (Judged verdict) = Short verdict
+Fits (Judged verdict share) = Short verdict
 Fits (Refused e) = (1 ≤ e) × (e ≤ short-buffer)
 
 -- the launcher's number of a verdict
@@ -85,9 +92,9 @@ abbrev pub verdictNumber : Verdict → ℕ
 verdictNumber SaysClear = 0
 verdictNumber (SaysRing ring) = 65536 + 1024 * ring .routine + 32 * ring .name
 
--- the launcher's number of an answer
+-- the launcher's number of an answer; the share is not in it
 abbrev pub numberOf : Answer → ℕ
-numberOf (Judged verdict) = verdictNumber verdict
+numberOf (Judged verdict share) = verdictNumber verdict
 numberOf (Refused e) = e
 
 -- the launcher's number for a table is that of its answer

@@ -1,16 +1,13 @@
 // The routines whose rows are due, as bits.
-ghost use mathlib.Core.Path.{_≡_};
-ghost use Prim.Native.Nat.{_*_, _^_, _≤_, _<_};
+ghost use Prim.Native.Nat.{_≤_, _<_};
 ghost use lib.ListN.{length};
-ghost use Rattle.table.specs.Constants.{most-routines, row-bytes};
+ghost use Rattle.table.specs.Constants.{most-routines};
 ghost use Rattle.grid.specs.Rows.{Has};
-ghost use Rattle.analysis.specs.laws.Due.{Highest, All, Below, CallerAdded, Callers, AnyRing, LowestRing};
+ghost use Rattle.analysis.specs.laws.Due.{Highest, All, Below, CallerAdded, Callers};
 use table::limits::MOST_ROUTINES;
-use table::limits::ROW_BYTES;
-use table::limits::ROW_CELLS;
 
 // The highest routine of a mask.
-fn highest(mask: u64) -> usize
+pub fn highest(mask: u64) -> usize
     requires { ⌜ 0 < mask ⌝ }
     ensures { λ r. ⌜ Highest mask r ⌝ }
 {
@@ -68,36 +65,4 @@ pub fn add_callers(calls: &[u64], callers: &mut [u64; MOST_ROUTINES])
         add_caller(callers, calls[r], r);
         r = r + 1;
     }
-}
-
-// Whether the row of a routine below n tells of a ring.
-pub fn any_ring(model: &[u8], n: usize) -> bool
-    requires { ⌜ (n ≤ most-routines) × (row-bytes * n ≤ length (now model)) ⌝ }
-    ensures { λ c. ⌜ AnyRing (now (model .entry)) n c ⌝ }
-{
-    let mut r = 0usize;
-    while r < n {
-        if model[ROW_BYTES * r + ROW_CELLS] == 1 {
-            return true;
-        }
-        r = r + 1;
-    }
-    false
-}
-
-// The lowest routine of the mask below n whose row tells of a ring, or n.
-pub fn lowest_ring(model: &[u8], n: usize, mask: u64) -> usize
-    requires { ⌜ (n ≤ most-routines) × (row-bytes * n ≤ length (now model)) ⌝ }
-    ensures { λ r. ⌜ LowestRing (now (model .entry)) n mask r ⌝ }
-{
-    let mut r = 0usize;
-    while r < n {
-        if (mask >> (r as u64)) % 2 == 1 {
-            if model[ROW_BYTES * r + ROW_CELLS] == 1 {
-                return r;
-            }
-        }
-        r = r + 1;
-    }
-    n
 }

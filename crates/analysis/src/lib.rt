@@ -1,16 +1,19 @@
-// The analysis: the least model of a table in a lent buffer, and the verdict.
+// The analysis: the least model of a table in a lent buffer, the verdict, and the share.
 ghost use mathlib.Core.Path.{_≡_};
 ghost use Prim.Native.Nat.{_<_};
 ghost use Rattle.table.specs.Check.{checkTable};
 ghost use Rattle.table.specs.Answer.{checkNumber, checkedOf};
 ghost use Rattle.analysis.specs.Answer.{Analysed, AnalysedAs, Fits, Short, verdictNumber};
-ghost use Rattle.analysis.specs.laws.Bodies.{Finished, Pronounces, CanJudgeKnown, JudgesKnown, CanJudge, Judges};
+ghost use Rattle.analysis.specs.laws.Bodies.{CanJudgeKnown, JudgesKnown, CanJudge, Judges};
 
 mod due;
+mod judging;
 mod reach;
 mod settle;
 mod survey;
 
+use judging::Judgement;
+use judging::judgement_of;
 use survey::survey_bodies;
 use table::Checked;
 use table::check;
@@ -32,50 +35,42 @@ pub enum Verdict {
     Ring(RingPlace),
 }
 
-// What the analysis answers: the verdict, or the number of a refusal.
+// How many of the routines that calls reach are without a ring: the whole percentage, the remainder, and of how many.
+pub struct Share {
+    pub percent: u64,
+    pub remainder: u64,
+    pub reached: u64,
+}
+
+// What the analysis answers: the verdict and the share, or the number of a refusal.
 pub enum Answer {
-    Judged(Verdict),
+    Judged(Verdict, Share),
     Refused(u64),
 }
 
-// What is said of a program whose rows are in the buffer, and whose ring names are `names`.
-fn verdict_of(calls: &[u64], model: &[u8], names: [u8; MOST_ROUTINES]) -> Verdict
-    requires { ⌜ Finished (now calls) (now model) names ⌝ }
-    ensures { λ v. ⌜ Pronounces (now (calls .entry)) (now (model .entry)) names v ⌝ }
-{
-    let n = calls.len();
-    if !due::any_ring(model, n) {
-        return Verdict::Clear;
-    }
-    let mask = reach::reached(calls);
-    let r = due::lowest_ring(model, n, mask);
-    if r < n {
-        let name = names[r] as u64;
-        Verdict::Ring(RingPlace {
-            routine: r as u64,
-            name: name,
-        })
-    } else {
-        Verdict::Clear
-    }
-}
-
 // Leaves the model of a program that was surveyed, and judges it.
-fn judge_surveyed(ks: &[u8], s: &[u8], starts: &[usize], calls: &[u64], model: &mut [u8]) -> Verdict
+fn judge_surveyed(
+    ks: &[u8],
+    s: &[u8],
+    starts: &[usize],
+    calls: &[u64],
+    model: &mut [u8],
+) -> Judgement
     requires { ⌜ CanJudgeKnown (now ks) (now s) (now starts) (now calls) (now model) ⌝ }
-    ensures { λ v. ⌜ JudgesKnown (now (ks .entry)) (now (s .entry)) (now (starts .entry)) (now (calls .entry))
-        (now (model .entry)) (now (model .exit)) v ⌝ }
+    ensures { λ j. ⌜ JudgesKnown (now (ks .entry)) (now (s .entry)) (now (starts .entry)) (now (calls .entry))
+        (now (model .entry)) (now (model .exit)) (j .verdict) (j .share) ⌝ }
 {
     let mut callers = [0u64; MOST_ROUTINES];
     due::add_callers(calls, &mut callers);
     let names = settle::settle(ks, s, starts, &callers, model);
-    verdict_of(calls, model, names)
+    judgement_of(calls, model, names)
 }
 
 // Leaves the model of the program that the sections hold, and judges it.
-fn judge(ks: &[u8], s: &[u8], model: &mut [u8]) -> Verdict
+fn judge(ks: &[u8], s: &[u8], model: &mut [u8]) -> Judgement
     requires { ⌜ CanJudge (now ks) (now s) (now model) ⌝ }
-    ensures { λ v. ⌜ Judges (now (ks .entry)) (now (s .entry)) (now (model .entry)) (now (model .exit)) v ⌝ }
+    ensures { λ j. ⌜ Judges (now (ks .entry)) (now (s .entry)) (now (model .entry)) (now (model .exit)) (j .verdict)
+        (j .share) ⌝ }
 {
     let n = ks.len();
     let mut starts = [0usize; MOST_ROUTINES];
@@ -84,7 +79,7 @@ fn judge(ks: &[u8], s: &[u8], model: &mut [u8]) -> Verdict
     judge_surveyed(ks, s, &starts[0..n], &calls[0..n], model)
 }
 
-// Analyses a table: leaves its model in the buffer, and answers the verdict; or answers the refusal.
+// Analyses a table: leaves its model in the buffer, and answers the verdict and the share; or answers the refusal.
 pub fn analyse(table: &[u8], model: &mut [u8]) -> Answer
     ensures analysed { λ r. ⌜ Analysed (now (table .entry)) (now (model .entry)) (now (model .exit)) r ⌝ }
     ensures fits { λ r. ⌜ Fits r ⌝ }
@@ -96,8 +91,10 @@ pub fn analyse(table: &[u8], model: &mut [u8]) -> Answer
             if model.len() < ROW_BYTES * n {
                 return Answer::Refused(SHORT_BUFFER);
             }
-            let v = judge(&table[1..n + 1], &table[n + 3..], model);
-            Answer::Judged(v)
+            let j = judge(&table[1..n + 1], &table[n + 3..], model);
+            let verdict = j.verdict;
+            let share = j.share;
+            Answer::Judged(verdict, share)
         }
     }
 }
@@ -119,7 +116,7 @@ pub extern "C" fn vangpear_analyse(table: &[u8], model: &mut [u8]) -> u32
     ensures { λ r. ⌜ AnalysedAs (now (table .entry)) (now (model .entry)) (now (model .exit)) r ⌝ }
 {
     match analyse(table, model) {
-        Answer::Judged(v) => verdict_number(v) as u32,
+        Answer::Judged(v, _) => verdict_number(v) as u32,
         Answer::Refused(e) => e as u32,
     }
 }

@@ -1,38 +1,20 @@
 // The routines that calls reach, as bits. `calls` has for each routine the routines that its body calls, as bits.
-ghost use mathlib.Core.Path.{_≡_};
-ghost use Prim.Native.Nat.{_≤_};
-ghost use lib.ListN.{length};
-ghost use Rattle.table.specs.Constants.{most-routines};
 ghost use Rattle.grid.specs.Rows.{Bits};
-ghost use Rattle.analysis.specs.laws.Reach.{Called, Reachable};
+ghost use Rattle.analysis.specs.laws.Reach.{CanReach, Reachable};
+use crate::due::highest;
 
-// The routines of the mask, and those that they call.
-fn called(calls: &[u64], mask: u64) -> u64
-    requires { ⌜ length (now calls) ≤ most-routines ⌝ }
-    ensures { λ m. ⌜ Called (now (calls .entry)) mask m ⌝ }
-{
-    let mut next = mask;
-    let mut r = 0usize;
-    while r < calls.len() {
-        if (mask >> (r as u64)) % 2 == 1 {
-            next = next | calls[r];
-        }
-        r = r + 1;
-    }
-    next
-}
-
-// The routines that calls reach from routine 0.
+// The routines that calls reach from routine 0: the calls of each are followed once.
 pub fn reached(calls: &[u64]) -> u64
-    requires { ⌜ length (now calls) ≤ most-routines ⌝ }
+    requires { ⌜ CanReach (now calls) ⌝ }
     ensures { λ m. ⌜ Bits m (Reachable (now (calls .entry))) ⌝ }
 {
-    let mut mask = 1u64;
-    loop {
-        let next = called(calls, mask);
-        if next == mask {
-            return mask;
-        }
+    let mut mask = calls[0] | 1;
+    let mut left = mask ^ 1;
+    while left != 0 {
+        let r = highest(left);
+        let next = calls[r] | mask;
+        left = (left - (1 << (r as u64))) | (next ^ mask);
         mask = next;
     }
+    mask
 }

@@ -32,7 +32,7 @@ pub fn analysed(table: &[u8], model: &mut [u8]) -> Answer
 pub fn listed(table: &[u8], model: &mut [u8], out: &mut [u8]) -> usize
     ensures listed { λ r. ⌜ Listed (now (table .entry)) (now (model .entry)) (now (model .exit)) (now (out .entry))
         (now (out .exit)) r ⌝ }
-    ensures short { λ r. ⌜ r ≤ 65559 ⌝ }
+    ensures short { λ r. ⌜ r ≤ 65574 ⌝ }
 {
     list(table, model, out)
 }

@@ -1,15 +1,16 @@
 -- Lines: how long they are, and when a cell has one.
-use mathlib.Core.Path.{_≡_, sym, ap, _∙_}
+use mathlib.Core.Path.{_≡_, refl, sym, ap, _∙_}
 use mathlib.Core.Bool.{cond}
 use mathlib.Core.List.{List, [], _∷_}
 use Prim.Native.Nat.{ℕ, _+_, _*_, _<_, _≤_}
 use native.Mathlib.Omega.{arith}
+use native.Mathlib.Decide.{decLt}
 use lib.Dec.{eqb}
 use lib.ListN.{length, length-append, getD}
 use borrow.Author.Tests.{eq-eqb, ne-eqb}
 use Rattle.table.specs.Constants.{row-bytes, row-names}
 use Rattle.listing.specs.laws.Appending.{Appends, equal-text}
-use Rattle.listing.specs.Text.{decimal, numbers, line, pair-word, ring-word, cellLine}
+use Rattle.listing.specs.Text.{digits, decimal, numbers, line, pair-word, share-word, ring-word, cellLine}
 use Rattle.listing.proofs.DecimalLaws.{one-digit, two-digits, three-digits}
 
 -- each number takes a space and its digits
@@ -29,6 +30,31 @@ ring-short r x h g = omega (
   two-digits r h,
   two-digits x g,
 )
+
+-- at 100 percent there is one digit less in the remainder
+pub share-short : (q r m : ℕ) → q ≤ 100 → (q ≡ 100 → r ≡ 0) → r < 100 → m < 100
+    → length (line share-word (q ∷ r ∷ m ∷ [])) ≤ 15
+share-short q r m hq whole hr hm = omega (
+  arith,
+  length-append share-word (numbers (q ∷ r ∷ m ∷ [])),
+  numbers-more q (r ∷ m ∷ []),
+  numbers-more r (m ∷ []),
+  numbers-more m [],
+  both,
+  two-digits m hm,
+)
+  where
+    both : length (decimal q) + length (decimal r) ≤ 4
+    both = elim (decLt q 100) [
+      | yes l ↦ omega (arith, two-digits q l, two-digits r hr)
+      | no l ↦
+          omega (arith, three-digits q (omega arith), one-digit r (let z = whole (omega arith) in omega arith))
+    ]
+
+-- a line of 15 bytes: 100 percent of 64 routines
+share-fifteen : length (line share-word (100 ∷ 0 ∷ 64 ∷ [])) ≡ 15
+unfolding digits
+share-fifteen = refl
 
 pub pair-short : (r a b v : ℕ) → r < 100 → a < 10 → b < 10 → v < 1000
     → length (line pair-word (r ∷ a ∷ b ∷ v ∷ [])) ≤ 16

@@ -1,31 +1,69 @@
--- The listing of an answer is what `list` leaves; a table that was judged has at most 64 routines.
+-- The listing of an answer is what `list` leaves; a table that was judged has at most 64 routines, and a small share.
 use mathlib.Core.Path.{_≡_, refl, sym, ap, subst, _∙_}
 use mathlib.Core.List.{List}
-use Prim.Native.Nat.{ℕ, _≤_}
+use Prim.Native.Nat.{ℕ, _*_, _≤_, _<_}
+use native.Mathlib.Decide.{decLt}
 use native.Mathlib.Omega.{arith}
-use lib.ListN.{getD}
+use lib.ListN.{length, getD}
+use Rattle.table.specs.Program.{Program}
+use Rattle.table.specs.Constants.{row-bytes}
 use Rattle.table.specs.Check.{Outcome, refused, accepted, checkTable}
 use Rattle.table.specs.laws.Accepts.{Bytes, accepted-few}
 use Rattle.table.specs.laws.Sound.{sound}
-use Rattle.analysis.specs.Answer.{Analysed}
+use Rattle.table.specs.laws.Formed.{well-formed}
+use Rattle.rules.specs.laws.Share.{percent-few, whole-exact, reached-few}
+use Rattle.analysis.specs.Answer.{Shares, Analysed}
+use Rattle.analysis.specs.declared.Share.{Share}
 use Rattle.analysis.specs.declared.Verdict.{Verdict}
 use Rattle.analysis.specs.declared.Answer.{Answer}
 use Rattle.analysis.specs.declared.Answer.the-variants.{Judged, Refused}
 use Rattle.listing.specs.Text.{listing, Listed}
 use Rattle.listing.specs.laws.Appending.{Appends, sets-over}
+use Rattle.listing.specs.laws.Small.{Small}
 
 -- the answers are of two kinds
 abbrev kind : Answer → ℕ
-kind (Judged v) = 0
+kind (Judged v s) = 0
 kind (Refused e) = 1
 
 module _ (T before after : List ℕ) (answer : Answer) (h : Analysed T before after answer) where
-  pub judged-few : (v : Verdict) → Bytes T → answer ≡ Judged v → getD T 0 0 ≤ 64
-  judged-few v bytes j = by (checkTable T) refl where
+  -- an answer that judges is no refusal
+  not-refused : (v : Verdict) (s : Share) (e : ℕ) → answer ≡ Judged v s → answer ≡ Refused e → ⊥
+  not-refused v s e j r = let z : _≡_ {A = ℕ} 0 1 = ap kind (sym j ∙ r) in omega arith
+
+  pub judged-few : (v : Verdict) (s : Share) → Bytes T → answer ≡ Judged v s → getD T 0 0 ≤ 64
+  judged-few v s bytes j = by (checkTable T) refl where
     by : (o : Outcome) → checkTable T ≡ o → getD T 0 0 ≤ 64
-    by (refused e) c = let z : _≡_ {A = ℕ} 0 1 = ap kind (sym j ∙ h .refused-table e c .0) in omega arith
+    by (refused e) c = absurd (not-refused v s e j (h .refused-table e c .0))
     by (accepted P) c =
-        let n = ap (λ (s : List ℕ). getD s 0 0) (sound T P bytes c .0) in omega (arith, accepted-few T P bytes c .0)
+        let n = ap (λ (t : List ℕ). getD t 0 0) (sound T P bytes c .0) in omega (arith, accepted-few T P bytes c .0)
+
+  -- its share is that of the table's program, and so it is small
+  pub judged-small : (v : Verdict) (s : Share) → Bytes T → answer ≡ Judged v s → Small s
+  judged-small v s bytes j = by (checkTable T) refl where
+    small : (P : Program) → checkTable T ≡ accepted P → Shares P s → Small s
+    small P c sh =
+        let few = accepted-few T P bytes c .0 in
+        let reached = reached-few P (s .percent) (s .remainder) (s .reached) sh (well-formed P (sound T P bytes c .1)) in
+        let below = sh .below in
+        record {
+          percent-few = percent-few P (s .percent) (s .remainder) (s .reached) sh;
+          whole-exact = whole-exact P (s .percent) (s .remainder) (s .reached) sh;
+          remainder-few = omega arith;
+          reached-few = omega arith;
+        }
+
+    sized : (P : Program) → checkTable T ≡ accepted P → Dec (length before < row-bytes * length P) → Small s
+    sized P c (yes lt) = absurd (not-refused v s 15 j (h .refused-buffer P c lt .0))
+    sized P c (no ge) =
+        let w = h .judged P c (omega arith) in
+        let same : Judged (w .0) (w .1) ≡ Judged v s = sym (w .2) ∙ j in
+        let e : w .1 ≡ s = cc in
+        small P c (rw e at (w .3 .shares))
+
+    by : (o : Outcome) → checkTable T ≡ o → Small s
+    by (refused e) c = absurd (not-refused v s e j (h .refused-table e c .0))
+    by (accepted P) c = sized P c (decLt (length before) (row-bytes * length P))
 
   pub listed : {l x : List ℕ} {p : ℕ} (n : ℕ) (a : Answer) → n ≡ getD T 0 0 → answer ≡ a
       → Appends 0 (listing n after a) l x p → Listed T before after l x p

@@ -7,17 +7,21 @@ use lib.Dec.{eqb, ltb}
 use lib.ListN.{length, getD, take, drop}
 use Rattle.table.specs.Constants.{most-routines, row-names, row-cells, row-bytes}
 use Rattle.analysis.specs.Answer.{Analysed}
+use Rattle.analysis.specs.declared.Share.{Share}
 use Rattle.analysis.specs.declared.Verdict.{Verdict}
 use Rattle.analysis.specs.declared.Verdict.the-variants.{Clear, Ring}
 use Rattle.analysis.specs.declared.Answer.{Answer}
 use Rattle.analysis.specs.declared.Answer.the-variants.{Judged, Refused}
 
--- the words of a listing, in ASCII: routines, pair, clear, ring, refused
+-- the words of a listing, in ASCII: routines, pair, share, clear, ring, refused
 abbrev pub routines-word : List ℕ
 routines-word = 114 ∷ 111 ∷ 117 ∷ 116 ∷ 105 ∷ 110 ∷ 101 ∷ 115 ∷ []
 
 abbrev pub pair-word : List ℕ
 pair-word = 112 ∷ 97 ∷ 105 ∷ 114 ∷ []
+
+abbrev pub share-word : List ℕ
+share-word = 115 ∷ 104 ∷ 97 ∷ 114 ∷ 101 ∷ []
 
 abbrev pub clear-word : List ℕ
 clear-word = 99 ∷ 108 ∷ 101 ∷ 97 ∷ 114 ∷ []
@@ -71,6 +75,10 @@ cellLine model r a b =
 abbrev pub pairLines : ℕ → List ℕ → List ℕ
 pairLines n model = each n (λ r. each row-names (λ a. each row-names (λ b. cellLine model r a b)))
 
+-- the line of a share: the whole percentage, the remainder, and the number of reached routines
+abbrev pub shareLine : Share → List ℕ
+shareLine share = line share-word (share .percent ∷ share .remainder ∷ share .reached ∷ [])
+
 -- the line of a verdict
 abbrev pub verdictLine : Verdict → List ℕ
 verdictLine Clear = line clear-word []
@@ -78,7 +86,8 @@ verdictLine (Ring ring) = line ring-word (ring .routine ∷ ring .name ∷ [])
 
 -- the listing of a table of n routines, from the answer and the model
 abbrev pub listing : ℕ → List ℕ → Answer → List ℕ
-listing n model (Judged verdict) = line routines-word (n ∷ []) ++ pairLines n model ++ verdictLine verdict
+listing n model (Judged verdict share) =
+    line routines-word (n ∷ []) ++ pairLines n model ++ shareLine share ++ verdictLine verdict
 listing n model (Refused e) = line refused-word (e ∷ [])
 
 -- the buffer after a text was written from its beginning on: as much of the text as there is room for, and then what was
@@ -86,9 +95,9 @@ listing n model (Refused e) = line refused-word (e ∷ [])
 abbrev pub over : List ℕ → List ℕ → List ℕ
 over text before = take (length before) text ++ drop (length text) before
 
--- how long a listing is at most: the first line, a line of 16 bytes for each cell of each routine, and the last line
+-- how long a listing is at most: the first line, a line of 16 bytes for each cell of each routine, and the last two lines
 abbrev pub longest : ℕ
-longest = 12 + most-routines * row-cells * 16 + 11
+longest = 12 + most-routines * row-cells * 16 + 15 + 11
 
 -- what `list` leaves: the analysis of the table, its listing in the lent buffer, and the listing's length; n is the
 -- table's first byte, the number of routines

@@ -5,10 +5,12 @@ ghost use Prim.Native.Nat.{_*_, _+_, _<_, _≤_};
 ghost use lib.ListN.{length, getD};
 ghost use Rattle.table.specs.Constants.{most-routines, row-names};
 ghost use Rattle.analysis.specs.Answer.{Short};
-ghost use Rattle.listing.specs.Text.{cellLine, each, line, pair-word, pairLines, ring-word, verdictLine};
+ghost use Rattle.listing.specs.Text.{cellLine, each, line, pair-word, pairLines, ring-word, shareLine, verdictLine};
+ghost use Rattle.listing.specs.laws.Small.{Small};
 ghost use Rattle.listing.specs.laws.Appending.{Appends};
 use crate::text::put;
 use crate::text::put_number;
+use analysis::Share;
 use analysis::Verdict;
 use table::limits::ROW_BYTES;
 use table::limits::ROW_NAMES;
@@ -102,6 +104,19 @@ pub fn put_rows(out: &mut [u8], at: usize, model: &[u8], n: usize) -> usize
         p = next;
     }
     p
+}
+
+// Appends the line of a share.
+pub fn put_share(out: &mut [u8], at: usize, share: Share) -> usize
+    requires { ⌜ (at < 70000) × Small share ⌝ }
+    ensures { λ p. ⌜ Appends at (shareLine share) (now (out .entry)) (now (out .exit)) p ⌝ }
+    ensures few { λ p. ⌜ p ≤ at + 15 ⌝ }
+{
+    let after_word = put(out, at, b"share");
+    let after_percent = put_number(out, after_word, share.percent);
+    let after_remainder = put_number(out, after_percent, share.remainder);
+    let after_reached = put_number(out, after_remainder, share.reached);
+    put(out, after_reached, b"\n")
 }
 
 // Appends the line of a ring.

@@ -10,9 +10,10 @@ use Rattle.table.specs.Program.{Code, end, new, lock, fork, choice, call, Routi
 use Rattle.rules.specs.Label.{Label, own, forked, unknown, several}
 use Rattle.rules.specs.Model.{Model, follows, Ring}
 use Rattle.rules.specs.Verdict.{Clear, RingAt}
+use Rattle.rules.specs.Share.{ShareOf}
 use Rattle.rules.specs.laws.Tests.{both, equal}
 use Rattle.rules.specs.laws.Certificate.{has-pair, pair-passes, OneLabel, one-label}
-use Rattle.rules.specs.laws.Judge.{is-clear, is-ring-at, ring-passes}
+use Rattle.rules.specs.laws.Judge.{is-clear, is-ring-at, ring-passes, is-share}
 
 abbrev pub routine : ℕ → Code → Routine
 routine k c = record { count = k; code = c }
@@ -65,6 +66,34 @@ ring-unreached = routine 0 end ∷ routine 0 crossed ∷ []
 clear-unreached : Ring ring-unreached 1 1 × Clear ring-unreached
 unfolding ℕ-discrete
 clear-unreached = (has-pair ring-unreached 1 1 1 several tt, is-clear ring-unreached tt)
+
+-- of three reached routines, one of them reached through another, one has a ring: 200 is 66 × 3 and 2
+abbrev three-reached : Program
+three-reached = routine 0 (call 1 [] end) ∷ routine 0 (call 2 [] end) ∷ routine 0 crossed ∷ []
+
+share-three : ShareOf three-reached 66 2 3
+unfolding ℕ-discrete
+share-three = is-share three-reached 66 2 3 tt
+
+-- a routine that no call reaches does not count, with a ring or without one
+share-unreached : ShareOf ring-unreached 100 0 1
+unfolding ℕ-discrete
+share-unreached = is-share ring-unreached 100 0 1 tt
+
+abbrev clear-beside-ring : Program
+clear-beside-ring = routine 0 crossed ∷ routine 0 end ∷ []
+
+share-beside-ring : ShareOf clear-beside-ring 0 0 1
+unfolding ℕ-discrete
+share-beside-ring = is-share clear-beside-ring 0 0 1 tt
+
+-- a routine that is called twice, or that calls routine 0, is one routine
+abbrev called-twice : Program
+called-twice = routine 0 (call 1 [] (fork 1 (call 1 [] end) end)) ∷ routine 0 (call 0 [] end) ∷ []
+
+share-called-twice : ShareOf called-twice 100 0 2
+unfolding ℕ-discrete
+share-called-twice = is-share called-twice 100 0 2 tt
 
 -- routine 1 locks its parameter, so it has the pair (0, 1); routine 0 runs d while it holds lock 2
 abbrev calls-held : Code → Program

@@ -5,6 +5,7 @@ pub mod Closure
 pub mod Verdict
 pub mod Tests
 pub mod Lists
+pub mod Share
 pub mod Nest
 pub mod Before101
 pub mod Table

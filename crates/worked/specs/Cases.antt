@@ -1,4 +1,4 @@
--- The worked tables of docs/FORMAT.md, from their bytes: each with its verdict and with the rows of its model.
+-- The worked tables of docs/FORMAT.md, from their bytes: each with its verdict, its share and the rows of its model.
 use mathlib.Core.Path.{_≡_}
 use mathlib.Core.List.{List, [], _∷_}
 use Prim.Native.Nat.{ℕ, _+_, _*_}
@@ -7,7 +7,8 @@ use Rattle.table.specs.Program.{Program}
 use Rattle.table.specs.Check.{accepted, checkTable}
 use Rattle.table.specs.WellFormed.{In}
 use Rattle.table.specs.Constants.{row-bytes, row-names}
-use Rattle.analysis.specs.Answer.{Says, Cell, Models}
+use Rattle.analysis.specs.Answer.{Says, Shares, Cell, Models}
+use Rattle.analysis.specs.declared.Share.{Share}
 use Rattle.analysis.specs.declared.Verdict.{Verdict}
 use Rattle.analysis.specs.declared.Verdict.the-variants.{Clear, Ring}
 
@@ -24,6 +25,7 @@ pub record Case : Type 0 where
   pub table : List ℕ
   -- what is said of it
   pub verdict : Verdict
+  pub share : Share
   -- the cells that are not 0
   pub cells : List CellByte
   -- the routines whose last byte is 1
@@ -49,8 +51,9 @@ pub record Holds (c : Case) : Type 0 where
   -- its bytes are accepted
   pub program : Program
   pub accepts : checkTable (c .table) ≡ accepted program
-  -- the verdict is the one that the rules give
+  -- the verdict and the share are those that the rules give
   pub says : Says program (c .verdict)
+  pub shares : Shares program (c .share)
   -- each cell named is the one that the rules give
   pub cell : (s : CellByte) → In s (c .cells) → Cell program (s .routine) (s .a) (s .b) (s .byte)
   -- the rows, whole, are those of the least model
@@ -116,6 +119,25 @@ table-j = 0x01 ∷ 0x00 ∷ 0x14 ∷ 0x00 ∷ 0x01 ∷ 0x01
     ∷ 0x03 ∷ 0x02 ∷ 0x01 ∷ 0x02 ∷ 0x02 ∷ 0x00 ∷ 0x00 ∷ 0x00
     ∷ 0x02 ∷ 0x01 ∷ 0x02 ∷ 0x02 ∷ 0x02 ∷ 0x01 ∷ 0x00 ∷ 0x00 ∷ 0x00 ∷ 0x00 ∷ []
 
+-- three reached routines, of which routine 2 has a ring
+abbrev pub table-three : List ℕ
+table-three = 0x03 ∷ 0x00 ∷ 0x00 ∷ 0x00 ∷ 0x1F ∷ 0x00 ∷ 0x06 ∷ 0x01 ∷ 0x06 ∷ 0x02 ∷ 0x00
+    ∷ 0x01 ∷ 0x01 ∷ 0x02 ∷ 0x01 ∷ 0x02 ∷ 0x02 ∷ 0x00 ∷ 0x00 ∷ 0x00
+    ∷ 0x01 ∷ 0x01 ∷ 0x03 ∷ 0x02 ∷ 0x01 ∷ 0x02 ∷ 0x02 ∷ 0x00 ∷ 0x00 ∷ 0x00
+    ∷ 0x02 ∷ 0x02 ∷ 0x02 ∷ 0x01 ∷ 0x00 ∷ 0x00 ∷ 0x00 ∷ []
+
+-- two reached routines, and routine 2, which no call reaches, with a ring
+abbrev pub table-unreached : List ℕ
+table-unreached = 0x03 ∷ 0x00 ∷ 0x01 ∷ 0x00 ∷ 0x1F ∷ 0x00
+    ∷ 0x01 ∷ 0x03 ∷ 0x06 ∷ 0x01 ∷ 0x01 ∷ 0x00 ∷ 0x06 ∷ 0x01 ∷ 0x01 ∷ 0x00
+    ∷ 0x02 ∷ 0x01 ∷ 0x00 ∷ 0x00
+    ∷ 0x01 ∷ 0x01 ∷ 0x03 ∷ 0x02 ∷ 0x01 ∷ 0x02 ∷ 0x02 ∷ 0x00 ∷ 0x00 ∷ 0x00
+    ∷ 0x02 ∷ 0x02 ∷ 0x02 ∷ 0x01 ∷ 0x00 ∷ 0x00 ∷ 0x00 ∷ []
+
+-- the share q percent with the remainder, of m routines
+abbrev of : ℕ → ℕ → ℕ → Share
+of q remainder m = record { percent = q; remainder = remainder; reached = m }
+
 -- the verdict ring with routine r and name x
 abbrev ring : ℕ → ℕ → Verdict
 ring r x = Ring (record { routine = r; name = x })
@@ -124,21 +146,23 @@ ring r x = Ring (record { routine = r; name = x })
 abbrev pair : ℕ → ℕ → ℕ → ℕ → CellByte
 pair r a b v = record { routine = r; a = a; b = b; byte = v }
 
--- a table, its verdict, its cells that are not 0 and its routines whose last byte is 1
-abbrev gets : List ℕ → Verdict → List CellByte → List ℕ → Case
-gets t v cs rs = record { table = t; verdict = v; cells = cs; rings = rs }
+-- a table, its verdict, its share, its cells that are not 0 and its routines whose last byte is 1
+abbrev gets : List ℕ → Verdict → Share → List CellByte → List ℕ → Case
+gets t v s cs rs = record { table = t; verdict = v; share = s; cells = cs; rings = rs }
 
 -- The worked tables, in order. The rows of a and g and row 1 of h are in docs/FORMAT.md; the rest the rules give.
 -- Routine 0 has no parameters, so that its cells are all 0.
 abbrev pub cases : List Case
-cases = gets table-a Clear [] []
-    ∷ gets table-b (ring 0 1) [] (0 ∷ [])
-    ∷ gets table-c Clear [] []
-    ∷ gets table-d Clear [] []
-    ∷ gets table-e Clear [] []
-    ∷ gets table-f (ring 0 2) [] (0 ∷ [])
-    ∷ gets table-g Clear (pair 1 0 1 1 ∷ pair 1 0 2 1 ∷ pair 1 2 1 1 ∷ []) []
-    ∷ gets table-h (ring 0 1) (pair 1 0 1 1 ∷ pair 1 0 2 5 ∷ pair 1 1 2 5 ∷ []) (0 ∷ [])
-    ∷ gets table-i-called (ring 0 1) (pair 1 1 2 2 ∷ pair 1 1 3 2 ∷ pair 1 2 3 2 ∷ []) (0 ∷ [])
-    ∷ gets table-i-written Clear [] []
-    ∷ gets table-j Clear [] [] ∷ []
+cases = gets table-a Clear (of 100 0 1) [] []
+    ∷ gets table-b (ring 0 1) (of 0 0 1) [] (0 ∷ [])
+    ∷ gets table-c Clear (of 100 0 1) [] []
+    ∷ gets table-d Clear (of 100 0 1) [] []
+    ∷ gets table-e Clear (of 100 0 1) [] []
+    ∷ gets table-f (ring 0 2) (of 0 0 1) [] (0 ∷ [])
+    ∷ gets table-g Clear (of 100 0 2) (pair 1 0 1 1 ∷ pair 1 0 2 1 ∷ pair 1 2 1 1 ∷ []) []
+    ∷ gets table-h (ring 0 1) (of 50 0 2) (pair 1 0 1 1 ∷ pair 1 0 2 5 ∷ pair 1 1 2 5 ∷ []) (0 ∷ [])
+    ∷ gets table-i-called (ring 0 1) (of 50 0 2) (pair 1 1 2 2 ∷ pair 1 1 3 2 ∷ pair 1 2 3 2 ∷ []) (0 ∷ [])
+    ∷ gets table-i-written Clear (of 100 0 1) [] []
+    ∷ gets table-j Clear (of 100 0 1) [] []
+    ∷ gets table-three (ring 2 1) (of 66 2 3) [] (2 ∷ [])
+    ∷ gets table-unreached Clear (of 100 0 2) (pair 1 0 1 1 ∷ []) (2 ∷ []) ∷ []

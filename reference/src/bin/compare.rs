@@ -6,6 +6,9 @@
 //! with 1 where COUNT is 1,000 or more and none of the random tables would have come
 //! out otherwise before request #101.
 //!
+//! None of the archive's numbers has the share in it: the listings that `frames` writes
+//! are there to compare that.
+//!
 //! Needs the feature `archive`.
 
 use std::collections::BTreeMap;

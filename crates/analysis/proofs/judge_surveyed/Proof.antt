@@ -1,4 +1,4 @@
--- `judge_surveyed` meets its contract: the rows are settled, and the verdict is read off them.
+-- `judge_surveyed` meets its contract: the rows are settled, and the judgement is read off them.
 use Rattle.analysis.proofs.DueLaws.{no-callers}
 use Rattle.analysis.proofs.VerdictLaws.{few-calls, can-settle, finished-from, judged-known}
 use borrow.Author.Needs.{needs}
@@ -18,8 +18,8 @@ settle-requires c κs =
     let m = c .before .before .add-callers in
     can-settle (a .ks .now) (a .s .now) (a .starts .now) (a .calls .now) (m .last .1 .0) (m .ensures) (a .model .now) p
 
-verdict-of-requires : tie.Need-verdict-of-requires
-verdict-of-requires c κs =
+judgement-of-requires : tie.Need-judgement-of-requires
+judgement-of-requires c κs =
     let a = c .before .before .before .before .before .before .before .before .before .before .before .before .before
     .args in
     let p = c .before .before .before .before .before .before .before .before .before .before .before .before .before
@@ -39,8 +39,9 @@ returns c =
     let m = c .before .before .before .before .before .before .before .add-callers in
     let t = c .before .before .before .before .settle in
     judged-known (a .ks .now) (a .s .now) (a .starts .now) (a .calls .now) (m .last .1 .0) (m .ensures)
-    (a .model .now) (t .last .1 .1 .1 .1 .0) (t .result) (t .ensures) (c .verdict-of .result) (c .verdict-of .ensures)
+    (a .model .now) (t .last .1 .1 .1 .1 .0) (t .result) (t .ensures) (c .judgement-of .result .verdict)
+    (c .judgement-of .result .share) (c .judgement-of .ensures)
 
 pub judge-surveyed-spec : {M : Type 1} → statement M
 judge-surveyed-spec =
-    tie.close (tie.spec add-callers-requires settle-requires verdict-of-requires same-length returns)
+    tie.close (tie.spec add-callers-requires settle-requires judgement-of-requires same-length returns)

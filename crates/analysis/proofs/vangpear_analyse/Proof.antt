@@ -1,6 +1,5 @@
 -- `vangpear_analyse` meets its contract: it gives the number of what `analyse` answers.
-use mathlib.Core.Path.{_≡_, sym, ap, _∙_}
-use native.Mathlib.Omega.{arith}
+use mathlib.Core.Path.{sym, ap, _∙_}
 use Rattle.analysis.specs.Answer.{numberOf}
 use Rattle.analysis.proofs.AnalyseLaws.{short-verdict, small-refusal}
 use borrow.Author.Needs.{needs}
@@ -16,7 +15,7 @@ enum-known-v c = search needs
 verdict-number-requires : tie.Need-verdict-number-requires
 verdict-number-requires c κs =
     let r = c .before .before .before .before .before .analyse in
-    short-verdict (r .result) (c .before .v .given .0 .0) (r .ensures .1) (c .before .v .given .1)
+    short-verdict (r .result) (c .before .v .given .0 .0) (c .before .v .given .0 .1 .0) (r .ensures .1) (c .before .v .given .1)
 
 cast-result : tie.Need-cast-result
 cast-result c = let h = c .verdict-number .ensures .1 in search needs

@@ -11,7 +11,8 @@ use Rattle.rules.specs.Verdict.{Calls}
 use Rattle.grid.specs.Rows.{Has}
 use Rattle.rows.specs.Model.{ShapedRow}
 use Rattle.table.specs.Constants.{row-bytes}
-use Rattle.analysis.specs.Answer.{Says, Short, JudgedAs}
+use Rattle.analysis.specs.Answer.{Says, Shares, Short, JudgedAs}
+use Rattle.analysis.specs.declared.Share.{Share}
 use Rattle.analysis.specs.declared.Verdict.{Verdict}
 use Rattle.analysis.specs.laws.Due.{Below}
 use Rattle.analysis.specs.laws.Settle.{GridOf, Improved, Partly}
@@ -124,11 +125,11 @@ pub record Finished (calls model names : List ℕ) : Type 0 where
   pub before : List ℕ
   pub partly : Partly program before model names (λ r. ⊥)
 
--- the verdict is true of the program whose rows are in the buffer
-abbrev pub Pronounces : List ℕ → List ℕ → List ℕ → Verdict → Type 0
-Pronounces calls model names verdict =
+-- the verdict and the share are true of the program whose rows are in the buffer
+abbrev pub Pronounces : List ℕ → List ℕ → List ℕ → Verdict → Share → Type 0
+Pronounces calls model names verdict share =
     (P : Program) (ks s starts before : List ℕ) → Known P ks s starts calls → Partly P before model names (λ r. ⊥)
-    → Says P verdict × Short verdict
+    → Says P verdict × Shares P share × Short verdict
 
 -- a program was surveyed, and its rows fit the buffer
 pub record CanJudgeKnown (ks s starts calls model : List ℕ) : Type 0 where
@@ -137,10 +138,10 @@ pub record CanJudgeKnown (ks s starts calls model : List ℕ) : Type 0 where
   pub long : row-bytes * length program ≤ length model
 
 -- the program that was surveyed is judged
-abbrev pub JudgesKnown : List ℕ → List ℕ → List ℕ → List ℕ → List ℕ → List ℕ → Verdict → Type 0
-JudgesKnown ks s starts calls before after verdict =
+abbrev pub JudgesKnown : List ℕ → List ℕ → List ℕ → List ℕ → List ℕ → List ℕ → Verdict → Share → Type 0
+JudgesKnown ks s starts calls before after verdict share =
     (P : Program) → Known P ks s starts calls → row-bytes * length P ≤ length before
-    → JudgedAs P before after verdict × Short verdict
+    → JudgedAs P before after verdict share × Short verdict
 
 -- the sections hold a program whose rows fit the buffer
 pub record CanJudge (ks s model : List ℕ) : Type 0 where
@@ -149,7 +150,7 @@ pub record CanJudge (ks s model : List ℕ) : Type 0 where
   pub long : row-bytes * length program ≤ length model
 
 -- the program is judged
-abbrev pub Judges : List ℕ → List ℕ → List ℕ → List ℕ → Verdict → Type 0
-Judges ks s before after verdict =
-    (P : Program) → Holds P ks s → row-bytes * length P ≤ length before → JudgedAs P before after verdict
-    × Short verdict
+abbrev pub Judges : List ℕ → List ℕ → List ℕ → List ℕ → Verdict → Share → Type 0
+Judges ks s before after verdict share =
+    (P : Program) → Holds P ks s → row-bytes * length P ≤ length before
+    → JudgedAs P before after verdict share × Short verdict

@@ -1,9 +1,9 @@
 -- The contract of the analysis leaves nothing free: two answers to one table, and the two buffers left, are equal. So
--- are the launcher's numbers, and a number tells its answer.
+-- are the launcher's numbers, and a number tells its answer but for the share.
 use mathlib.Core.Path.{_≡_, refl, sym, ap, _∙_}
 use mathlib.Core.Logic.{_⊎_, inl, inr}
 use mathlib.Core.List.{List}
-use Prim.Native.Nat.{ℕ, zero, _+_, _*_, _/_, _%_, _≤_, _<_}
+use Prim.Native.Nat.{ℕ, _+_, _*_, _/_, _%_, _≤_, _<_}
 use native.Mathlib.Nat.{div-add-mod', mod-lt}
 use native.Mathlib.Decide.{decLt}
 use native.Mathlib.Omega.{arith}
@@ -14,13 +14,15 @@ use Rattle.table.specs.Check.{Outcome, refused, accepted, checkTable}
 use Rattle.rules.specs.Label.{own, unknown, several}
 use Rattle.rules.specs.Model.{Row, Ring}
 use Rattle.rules.specs.laws.Verdict.{ring-at-unique, clear-no-ring}
-use Rattle.analysis.specs.declared.RingPlace.{RingPlace}
+use Rattle.rules.specs.laws.Share.{share-unique}
+use Rattle.analysis.specs.declared.Share.{Share}
 use Rattle.analysis.specs.declared.Verdict.{Verdict}
 use Rattle.analysis.specs.declared.Verdict.the-variants.{Clear as SaysClear, Ring as SaysRing}
 use Rattle.analysis.specs.declared.Answer.{Answer}
 use Rattle.analysis.specs.declared.Answer.the-variants.{Judged, Refused}
-use Rattle.table.specs.Constants.{row-bytes, row-names}
-use Rattle.analysis.specs.Answer.{Flag, Cell, Models, Says, JudgedAs, Analysed, Fits, numberOf, AnalysedAs}
+use Rattle.table.specs.Constants.{row-bytes}
+use Rattle.analysis.specs.Answer.{Flag, Cell, Models, Says, Shares, JudgedAs, Analysed, Fits}
+use Rattle.analysis.specs.Answer.{numberOf, AnalysedAs}
 
 -- a fact has one flag
 pub flag-unique : (v w : ℕ) (Q : Type 0) → Flag v Q → Flag w Q → v ≡ w
@@ -77,11 +79,17 @@ verdict-unique P (SaysRing a) (SaysRing b) p q =
     let e = ring-at-unique P (a .routine) (b .routine) (a .name) (b .name) p q in
     λ i. SaysRing (record { routine = e .0 i; name = e .1 i })
 
+-- a program has one share
+pub shares-unique : (P : Program) (s t : Share) → Shares P s → Shares P t → s ≡ t
+shares-unique P s t p q =
+    let e = share-unique P (s .percent) (s .remainder) (s .reached) (t .percent) (t .remainder) (t .reached) p q in
+    λ i. record { percent = e .0 i; remainder = e .1 i; reached = e .2 i }
+
 -- what is left of one buffer is one buffer
 pub judged-unique :
-    (P : Program) (before after after′ : List ℕ) (v w : Verdict)
-    → JudgedAs P before after v → JudgedAs P before after′ w → after ≡ after′
-judged-unique P before after after′ v w p q =
+    (P : Program) (before after after′ : List ℕ) (v w : Verdict) (s t : Share)
+    → JudgedAs P before after v s → JudgedAs P before after′ w t → after ≡ after′
+judged-unique P before after after′ v w s t p q =
     ext-getD 0 after after′ (p .same-length ∙ sym (q .same-length)) (λ i h. go i (decLt i (row-bytes * length P)))
   where
     go : (i : ℕ) → Dec (i < row-bytes * length P) → getD after i 0 ≡ getD after′ i 0
@@ -100,8 +108,11 @@ analysed-unique table before after after′ answer answer′ p q = by (checkTabl
     judged P e h =
         let x = p .judged P e h in
         let y = q .judged P e h in
-        let same = verdict-unique P (x .0) (y .0) (x .2 .says) (y .2 .says) in
-        (judged-unique P before after after′ (x .0) (y .0) (x .2) (y .2), cc (x .1, y .1, same))
+        let verdicts = verdict-unique P (x .0) (y .0) (x .3 .says) (y .3 .says) in
+        let shares = shares-unique P (x .1) (y .1) (x .3 .shares) (y .3 .shares) in (
+          judged-unique P before after after′ (x .0) (y .0) (x .1) (y .1) (x .3) (y .3),
+          cc (x .2, y .2, verdicts, shares),
+        )
 
     sized : (P : Program) → checkTable table ≡ accepted P → Dec (length before < row-bytes * length P)
         → (after ≡ after′) × (answer ≡ answer′)
@@ -126,25 +137,32 @@ number-unique table before after after′ n m p q =
     let same = analysed-unique table before after after′ (p .0) (q .0) (p .2) (q .2) in
     (same .0, p .1 ∙ ap numberOf (same .1) ∙ sym (q .1))
 
--- the launcher's number tells the answer
-pub number-tells : (a b : Answer) → Fits a → Fits b → numberOf a ≡ numberOf b → a ≡ b
-number-tells (Judged SaysClear) (Judged SaysClear) f g e = refl
-number-tells (Judged SaysClear) (Judged (SaysRing y)) f g e = absurd (omega arith)
-number-tells (Judged SaysClear) (Refused y) f g e = let l = g .0 in absurd (omega arith)
-number-tells (Judged (SaysRing x)) (Judged SaysClear) f g e = absurd (omega arith)
-number-tells (Judged (SaysRing x)) (Judged (SaysRing y)) f g e =
+-- two answers are the same, but for the share
+abbrev pub SameButShare : Answer → Answer → Type 0
+SameButShare (Judged v s) (Judged w t) = v ≡ w
+SameButShare (Judged v s) (Refused y) = ⊥
+SameButShare (Refused x) (Judged w t) = ⊥
+SameButShare (Refused x) (Refused y) = x ≡ y
+
+-- the launcher's number tells the answer, but for the share
+pub number-tells : (a b : Answer) → Fits a → Fits b → numberOf a ≡ numberOf b → SameButShare a b
+number-tells (Judged SaysClear s) (Judged SaysClear t) f g e = refl
+number-tells (Judged SaysClear s) (Judged (SaysRing y) t) f g e = absurd (omega arith)
+number-tells (Judged SaysClear s) (Refused y) f g e = let l = g .0 in absurd (omega arith)
+number-tells (Judged (SaysRing x) s) (Judged SaysClear t) f g e = absurd (omega arith)
+number-tells (Judged (SaysRing x) s) (Judged (SaysRing y) t) f g e =
     let l = f .1 in
     let m = g .1 in
     let r : x .routine ≡ y .routine = omega arith in
     let n : x .name ≡ y .name = omega arith in
-    λ i. Judged (SaysRing (record { routine = r i; name = n i }))
-number-tells (Judged (SaysRing x)) (Refused y) f g e = let l = g .1 in absurd (omega arith)
-number-tells (Refused x) (Judged SaysClear) f g e = let l = f .0 in absurd (omega arith)
-number-tells (Refused x) (Judged (SaysRing y)) f g e = let l = f .1 in absurd (omega arith)
-number-tells (Refused x) (Refused y) f g e = ap Refused e
+    λ i. SaysRing (record { routine = r i; name = n i })
+number-tells (Judged (SaysRing x) s) (Refused y) f g e = let l = g .1 in absurd (omega arith)
+number-tells (Refused x) (Judged SaysClear t) f g e = let l = f .0 in absurd (omega arith)
+number-tells (Refused x) (Judged (SaysRing y) t) f g e = let l = f .1 in absurd (omega arith)
+number-tells (Refused x) (Refused y) f g e = e
 
 -- it is 0 to 15 or, of a ring, 65,536 and more, and at most that of routine 63 and name 15
 pub number-few : (a : Answer) → Fits a → (numberOf a ≤ 15) ⊎ ((65536 ≤ numberOf a) × (numberOf a ≤ 130528))
-number-few (Judged SaysClear) f = inl (omega arith)
-number-few (Judged (SaysRing x)) f = let l = f .0 in let m = f .1 in inr (omega arith, omega arith)
+number-few (Judged SaysClear s) f = inl (omega arith)
+number-few (Judged (SaysRing x) s) f = let l = f .0 in let m = f .1 in inr (omega arith, omega arith)
 number-few (Refused e) f = inl (f .1)

@@ -27,10 +27,11 @@ xor-bit a b k =
     (omega
     (arith, xor-step (a / 2 ^ k) (b / 2 ^ k), differ-sum (a / 2 ^ k % 2) (b / 2 ^ k % 2) (omega arith) (omega arith)))
 
--- the bits of `a | b` are those of a and those of b
 -- a union is no less than its first part
 pub or-le : (a b : ℕ) → a ≤ bitOr a b
 or-le a b = omega (arith, or-add-and a b, and-le-r a b)
+
+-- the bits of `a | b` are those of a and those of b
 
 pub has-left : (a b k : ℕ) → Has a k → Has (bitOr a b) k
 has-left a b k h = or-bit a b k ∙ omega arith

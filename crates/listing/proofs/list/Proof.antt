@@ -2,7 +2,7 @@
 use native.Mathlib.Omega.{arith}
 use mathlib.Core.Path.{refl, subst}
 use Rattle.analysis.specs.Answer.{Fits}
-use Rattle.listing.proofs.ListLaws.{judged-few, listed}
+use Rattle.listing.proofs.ListLaws.{judged-few, judged-small, listed}
 use borrow.Author.Needs.{needs}
 use Rattle.listing.proofs.list.Statement.{statement}
 use Rattle.listing.proofs.list.Tie as tie
@@ -22,9 +22,10 @@ list-judged-requires c κs =
     let analysed = judged .before .before .before .before in
     let start = analysed .before .before .before .before in
     let h = analysed .analyse .ensures in
-    let few = judged-few _ _ _ _ (h .0) _ (λ i. omega (arith, start .shared-slice-known .given i))
-    (judged .verdict .given .1) in
-    (omega (arith, few, c .before .routines .ensures .0), subst Fits (judged .verdict .given .1) (h .1))
+    let e = judged .verdict .given .1 in
+    let few = judged-few _ _ _ _ (h .0) _ _ (λ i. omega (arith, start .shared-slice-known .given i)) e in
+    let small = judged-small _ _ _ _ (h .0) _ _ (λ i. omega (arith, start .shared-slice-known .given i)) e in
+    (omega (arith, few, c .before .routines .ensures .0), subst Fits e (h .1), small)
 
 enum-known-e : tie.Need-enum-known-e
 enum-known-e c = search needs

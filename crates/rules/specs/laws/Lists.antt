@@ -1,11 +1,12 @@
 -- Lists that are computed, with the fact that an entry of each stands for, and the closing of a list under a step.
-use mathlib.Core.Path.{_≡_, refl}
+use mathlib.Core.Path.{_≡_, refl, ap}
 use mathlib.Core.Logic.{_⊎_, inl, inr}
 use mathlib.Core.Bool.{Bool, true, false, not, cond, _&&_, _||_}
 use mathlib.Core.List.{List, [], _∷_, _++_}
 use Prim.Native.Nat.{ℕ, zero, suc, _<_}
 use native.Mathlib.Nat.{le-of-suc-le-suc, not-suc-le-zero, eq-or-lt-of-le}
 use lib.Dec.{T}
+use lib.ListN.{length}
 use Rattle.table.specs.WellFormed.{In}
 use Rattle.rules.specs.laws.Tests.{Decides, either, negated, halves}
 
@@ -96,6 +97,10 @@ in-up-to k (suc n) h = go (eq-or-lt-of-le (le-of-suc-le-suc h)) (in-up-to k n)
     go : (k ≡ n) ⊎ (k < n) → (k < n → In k (upTo n)) → (k ≡ n) ⊎ In k (upTo n)
     go (inl e) rest = inl e
     go (inr lt) rest = inr (rest lt)
+
+pub up-to-long : (n : ℕ) → length (upTo n) ≡ n
+up-to-long zero = refl
+up-to-long (suc n) = ap suc (up-to-long n)
 
 -- the test passes at each entry
 abbrev pub every? : {A : Type 0} → (A → Bool) → List A → Bool

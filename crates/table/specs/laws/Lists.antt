@@ -3,7 +3,7 @@ use mathlib.Core.Path.{_≡_, refl, sym, ap, _∙_, subst}
 use mathlib.Core.Logic.{_≢_, _⊎_, inl, inr}
 use mathlib.Core.List.{List, [], _∷_, _++_, map}
 use mathlib.Core.Option.{some}
-use Prim.Native.Nat.{ℕ, zero, suc, _<_}
+use Prim.Native.Nat.{ℕ, zero, suc, _≤_, _<_}
 use native.Mathlib.Omega.{arith}
 use lib.ListN.{length, getD, getElem?}
 use Rattle.table.specs.Program.{names}
@@ -68,6 +68,14 @@ module _ {A : Type 0} where
   out-in x y (z ∷ xs) (inl e) ne (inr j) = j
   out-in x y (z ∷ xs) (inr i) ne (inl q) = inl q
   out-in x y (z ∷ xs) (inr i) ne (inr j) = inr (out-in x y xs i ne j)
+
+  -- entries that are all different and all in a second list are no more than it has
+  pub NoDup-within : (xs ys : List A) → NoDup xs → ((x : A) → In x xs → In x ys) → length xs ≤ length ys
+  NoDup-within [] ys d f = omega arith
+  NoDup-within (x ∷ xs) ys d f =
+      let i = f x (inl refl) in
+      let rest = NoDup-within xs (out x ys i) (d .1) (λ y j. out-in x y ys i (λ e. d .0 (rw e at j)) (f y (inr j))) in
+      omega (arith, out-length x ys i)
 
 module _ {A B : Type 0} (f : A → B) where
   pub In-map : (y : B) (a : List A) → In y (map f a) → (x : A) × In x a × (y ≡ f x)

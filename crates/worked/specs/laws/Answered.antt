@@ -1,4 +1,4 @@
--- What the contract of the analysis comes to at a worked table: the verdict and the rows of its entry.
+-- What the contract of the analysis comes to at a worked table: the verdict, the share and the rows of its entry.
 use mathlib.Core.Path.{_≡_, refl, sym, _∙_}
 use mathlib.Core.List.{List, [], _∷_}
 use Prim.Native.Nat.{ℕ, _+_, _*_, _≤_, _<_}
@@ -9,11 +9,12 @@ use Rattle.table.specs.Program.{Program}
 use Rattle.table.specs.Check.{accepted, checkTable}
 use Rattle.table.specs.WellFormed.{In}
 use Rattle.table.specs.Constants.{row-bytes, row-names}
-use Rattle.analysis.specs.Answer.{Says, Models, JudgedAs, Analysed}
+use Rattle.analysis.specs.Answer.{Says, Shares, Models, JudgedAs, Analysed}
+use Rattle.analysis.specs.declared.Share.{Share}
 use Rattle.analysis.specs.declared.Verdict.{Verdict}
 use Rattle.analysis.specs.declared.Answer.{Answer}
 use Rattle.analysis.specs.declared.Answer.the-variants.{Judged}
-use Rattle.analysis.specs.laws.Unique.{models-unique, verdict-unique}
+use Rattle.analysis.specs.laws.Unique.{models-unique, verdict-unique, shares-unique}
 use Rattle.worked.specs.Cases.{CellByte, Case, withCells, withRings, rowsOf, Holds, cases}
 use Rattle.worked.specs.laws.Proved.{every-case}
 
@@ -38,17 +39,21 @@ rows-long n c =
 
 -- the answer and the buffer of a worked table that has n routines
 pub record Answers (c : Case) (n : ℕ) (after : List ℕ) (answer : Answer) : Type 0 where
-  pub verdict : answer ≡ Judged (c .verdict)
+  pub judged : answer ≡ Judged (c .verdict) (c .share)
   pub rows : take (row-bytes * n) after ≡ rowsOf n c
 
--- where an entry holds, the contract gives its verdict and its rows
+-- where an entry holds, the contract gives its verdict, its share and its rows
 answers :
     (c : Case) → Holds c → (P : Program) → checkTable (c .table) ≡ accepted P
     → (before after : List ℕ) (answer : Answer) → row-bytes * length P ≤ length before
     → Analysed (c .table) before after answer → Answers c (length P) after answer
 answers c h P e before after answer l p =
     record {
-      verdict = cc (w .1, verdict-unique P (w .0) (c .verdict) (w .2 .says) says);
+      judged = cc (
+        w .2,
+        verdict-unique P (w .0) (c .verdict) (w .3 .says) says,
+        shares-unique P (w .1) (c .share) (w .3 .shares) shares,
+      );
       rows =
           ext-getD 0 (take (row-bytes * length P) after) (rowsOf (length P) c) (long ∙ sym (rows-long (length P) c)) at;
     }
@@ -59,14 +64,17 @@ answers c h P e before after answer l p =
     says : Says P (c .verdict)
     says = rw same at (h .says)
 
+    shares : Shares P (c .share)
+    shares = rw same at (h .shares)
+
     models : Models P (rowsOf (length P) c)
     models = rw same at (h .models)
 
-    w : (v : Verdict) × (answer ≡ Judged v) × JudgedAs P before after v
+    w : (v : Verdict) × (s : Share) × (answer ≡ Judged v s) × JudgedAs P before after v s
     w = p .judged P e l
 
     long : length (take (row-bytes * length P) after) ≡ row-bytes * length P
-    long = length-take-le (row-bytes * length P) after (let k = w .2 .same-length in omega arith)
+    long = length-take-le (row-bytes * length P) after (let k = w .3 .same-length in omega arith)
 
     at :
         (i : ℕ) → i < length (take (row-bytes * length P) after)
@@ -74,9 +82,9 @@ answers c h P e before after answer l p =
     at i k =
         let k′ : i < row-bytes * length P = rw long at k in
         getD-take (row-bytes * length P) after i 0 k′
-        ∙ models-unique P after (rowsOf (length P) c) (w .2 .model) models i k′
+        ∙ models-unique P after (rowsOf (length P) c) (w .3 .model) models i k′
 
--- every worked table, where the buffer is long enough, gets its verdict and leaves its rows in the buffer
+-- every worked table, where the buffer is long enough, gets its verdict and its share, and leaves its rows in the buffer
 pub every-answer :
     (c : Case) → In c cases → (P : Program) → checkTable (c .table) ≡ accepted P
     → (before after : List ℕ) (answer : Answer) → row-bytes * length P ≤ length before

@@ -10,9 +10,11 @@ use Rattle.table.specs.Program.{Program}
 use Rattle.table.specs.Check.{Outcome, refused, accepted, checkTable}
 use Rattle.table.specs.Constants.{row-bytes}
 use Rattle.table.specs.laws.Refusals.{refusals}
+use Rattle.rules.specs.laws.Share.{clear-whole}
 use Rattle.run.specs.Run.{State, thread, ended, start, run, Side, Turn, turn, Circle, CanStep, Safe}
 use Rattle.run.specs.laws.Turns.{can-step-changes}
 use Rattle.analysis.specs.Answer.{JudgedAs, Analysed, numberOf, AnalysedAs}
+use Rattle.analysis.specs.declared.Share.{Share}
 use Rattle.analysis.specs.declared.Verdict.{Verdict}
 use Rattle.analysis.specs.declared.Verdict.the-variants.{Clear, Ring}
 use Rattle.analysis.specs.declared.Answer.the-variants.{Judged, Refused}
@@ -30,49 +32,60 @@ goes-on P s safe = by (safe .goes-on)
 
 -- where the answer is clear: after every list of turns there is no circle, and the run goes on unless all have ended
 pub never-sticks :
-    (table before after : List ℕ) (P : Program) → checkTable table ≡ accepted P → row-bytes * length P ≤ length before
-    → Analysed table before after (Judged Clear) → (turns : List Turn)
+    (table before after : List ℕ) (P : Program) (share : Share) → checkTable table ≡ accepted P
+    → row-bytes * length P ≤ length before → Analysed table before after (Judged Clear share) → (turns : List Turn)
     → (¬ Circle (run P (start P) turns)) × GoesOn P (run P (start P) turns)
-never-sticks table before after P e l p turns =
+never-sticks table before after P share e l p turns =
     (safe .no-circle, goes-on P (run P (start P) turns) safe)
   where
-    w : (v : Verdict) × (Judged Clear ≡ Judged v) × JudgedAs P before after v
+    w : (v : Verdict) × (s : Share) × (Judged Clear share ≡ Judged v s) × JudgedAs P before after v s
     w = p .judged P e l
 
     clear : w .0 ≡ Clear
-    clear = cc (w .1)
+    clear = cc (w .2)
 
     safe : Safe (run P (start P) turns)
-    safe = w .2 .safe clear turns
+    safe = w .3 .safe clear turns
 
--- where the launcher's number is 0, the table is accepted, the buffer has room for its model, and the answer is clear
-pub zero-is-clear :
-    (table before after : List ℕ) → AnalysedAs table before after 0
-    → (P : Program) × (checkTable table ≡ accepted P) × (row-bytes * length P ≤ length before)
-    × Analysed table before after (Judged Clear)
+-- the table is accepted, the buffer has room for its model, and the answer is clear, with the share of a clear table
+pub record AnsweredClear (table before after : List ℕ) : Type 0 where
+  pub program : Program
+  pub accepts : checkTable table ≡ accepted program
+  pub long : row-bytes * length program ≤ length before
+  pub share : Share
+  pub analysed : Analysed table before after (Judged Clear share)
+  pub whole : (share .percent ≡ 100) × (share .remainder ≡ 0)
+
+-- that is so where the launcher's number is 0
+pub zero-is-clear : (table before after : List ℕ) → AnalysedAs table before after 0 → AnsweredClear table before after
 zero-is-clear table before after p = by (checkTable table) refl
   where
     a : Analysed table before after (p .0)
     a = p .2
 
-    clear : (v : Verdict) → p .0 ≡ Judged v → p .0 ≡ Judged Clear
-    clear Clear e = e
-    clear (Ring ring) e = let z : 0 ≡ numberOf (Judged (Ring ring)) = rw e at (p .1) in absurd (omega arith)
+    clear : (v : Verdict) (s : Share) → p .0 ≡ Judged v s → v ≡ Clear
+    clear Clear s e = refl
+    clear (Ring ring) s e = let z : 0 ≡ numberOf (Judged (Ring ring) s) = rw e at (p .1) in absurd (omega arith)
 
-    by : (o : Outcome) → checkTable table ≡ o
-        → (P : Program) × (checkTable table ≡ accepted P) × (row-bytes * length P ≤ length before)
-        × Analysed table before after (Judged Clear)
+    by : (o : Outcome) → checkTable table ≡ o → AnsweredClear table before after
     by (refused e) h =
         let z : 0 ≡ numberOf (Refused e) = rw (a .refused-table e h .0) at (p .1) in
         let l = refusals table e h .0 in
         absurd (omega arith)
     by (accepted P) h = sized (decLt (length before) (row-bytes * length P))
       where
-        sized : Dec (length before < row-bytes * length P)
-            → (P : Program) × (checkTable table ≡ accepted P) × (row-bytes * length P ≤ length before)
-            × Analysed table before after (Judged Clear)
+        sized : Dec (length before < row-bytes * length P) → AnsweredClear table before after
         sized (yes lt) =
             let z : 0 ≡ numberOf (Refused 15) = rw (a .refused-buffer P h lt .0) at (p .1) in absurd (omega arith)
         sized (no ge) =
             let w = a .judged P h (omega arith) in
-            (P, h, omega arith, rw (clear (w .0) (w .1)) at a)
+            let s = w .1 in
+            let e : w .0 ≡ Clear = clear (w .0) s (w .2) in
+            record {
+              program = P;
+              accepts = h;
+              long = omega arith;
+              share = s;
+              analysed = let answer : p .0 ≡ Judged Clear s = cc (w .2, e) in rw answer at a;
+              whole = clear-whole P (s .percent) (s .remainder) (s .reached) (w .3 .shares) (rw e at (w .3 .says));
+            }

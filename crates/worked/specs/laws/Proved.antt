@@ -2,7 +2,7 @@
 use mathlib.Core.Path.{_≡_, refl}
 use mathlib.Core.Bool.{Bool, true, false, cond, _&&_}
 use mathlib.Core.Logic.{inl, inr}
-use mathlib.Core.List.{List, [], _∷_}
+use mathlib.Core.List.{List}
 use Prim.Native.Nat.{ℕ, _+_, _*_, _<_}
 use native.Mathlib.Decide.{ℕ-discrete}
 use lib.Dec.{T, eqb, eqb→eq}
@@ -12,15 +12,15 @@ use Rattle.table.specs.Check.{Outcome, refused, accepted, checkTable, blockBy, 
 use Rattle.table.specs.WellFormed.{In}
 use Rattle.rules.specs.Label.{Label, own, unknown, several}
 use Rattle.rules.specs.Model.{Row, Ring}
-use Rattle.rules.specs.laws.Tests.{Decides, both, equal, itself, halves}
-use Rattle.rules.specs.laws.Lists.{Found, changed, alone, only, guarded, gather, gathered}
+use Rattle.rules.specs.laws.Tests.{Decides, both, itself, halves}
 use Rattle.rules.specs.laws.Lists.{member?, member, every?, every-at}
 use Rattle.rules.specs.laws.Table.{everyBelow, at-below, at-both}
-use Rattle.rules.specs.laws.Certificate.{Entry, entry, sameLabel?, same-label, modelOf, in-model, settled?, is-model}
-use Rattle.rules.specs.laws.Certificate.{rowLabels, is-row}
-use Rattle.rules.specs.laws.Judge.{clear?, is-clear, ringAt?, is-ring-at}
+use Rattle.rules.specs.laws.Certificate.{sameLabel?, same-label, settled?, rowLabels, is-row}
+use Rattle.rules.specs.laws.Judge.{clear?, is-clear, ringAt?, is-ring-at, ringsOf, is-ring, some?, is-some}
+use Rattle.rules.specs.laws.Judge.{share?, is-share}
 use Rattle.table.specs.Constants.{row-bytes, row-names}
 use Rattle.analysis.specs.Answer.{Flag, Cell, Models, Says}
+use Rattle.analysis.specs.declared.Share.{Share}
 use Rattle.analysis.specs.declared.Verdict.{Verdict}
 use Rattle.analysis.specs.declared.Verdict.the-variants.{Clear, Ring as RingOf}
 use Rattle.worked.specs.Cases.{CellByte, Case, rowsOf, Holds, cases}
@@ -63,41 +63,6 @@ is-cell P t r a b v e =
       by-unknown = is-flag (labelled? P r a b unknown) (is-labelled P t r a b unknown);
       by-several = is-flag (labelled? P r a b several) (is-labelled P t r a b several);
     }
-
--- the name at which the entry is a ring of routine r
-abbrev ringOf : ℕ → Entry → List ℕ
-ringOf r (entry s a b m) = only (eqb s r && (eqb a b && sameLabel? m several)) (a ∷ [])
-
--- the names at which routine r has a ring
-abbrev ringsOf : Program → ℕ → List ℕ
-ringsOf P r = gather (ringOf r) (modelOf P)
-
--- they are the rings of the rules
-is-ring : (P : Program) → T (settled? P) → (r x : ℕ) → Found x (ringsOf P r) (Ring P r x)
-is-ring P t r x = changed (λ w. to (w .0) (w .1) (w .2)) from (gathered (modelOf P) is-at)
-  where
-    RingOfEntry : Entry → Type 0
-    RingOfEntry (entry s a b m) = ((s ≡ r) × ((a ≡ b) × (m ≡ several))) × (x ≡ a)
-
-    is-at : (e : Entry) → Found x (ringOf r e) (RingOfEntry e)
-    is-at (entry s a b m) = guarded (both (equal s r) (both (equal a b) (same-label m several))) (alone x a)
-
-    to : (e : Entry) → In e (modelOf P) → RingOfEntry e → Ring P r x
-    to (entry s a b m) i w =
-        rw (w .1) (rw (w .0 .0, ← w .0 .1 .0, w .0 .1 .1) at (in-model P (entry s a b m) i))
-
-    from : Ring P r x → (e : Entry) × In e (modelOf P) × RingOfEntry e
-    from ring = (entry r x x several, is-model P t r x x several .entry ring, ((refl, (refl, refl)), refl))
-
--- whether there is an entry
-abbrev some? : List ℕ → Bool
-some? [] = false
-some? (x ∷ xs) = true
-
--- an entry is something that the list stands for
-is-some : (xs : List ℕ) {Q : ℕ → Type 0} → ((x : ℕ) → Found x xs (Q x)) → Decides (some? xs) ((x : ℕ) × Q x)
-is-some [] f = record { fact = λ t. absurd t; test = λ w. f (w .0) .entry (w .1) }
-is-some (x ∷ xs) f = record { fact = λ t. (x, f x .fact (inl refl)); test = λ w. tt }
 
 -- cell (a, b) of row r in the buffer has the byte of the rules
 abbrev cellAgrees? : Program → List ℕ → ℕ → ℕ → ℕ → Bool
@@ -148,6 +113,10 @@ is-said : (P : Program) (v : Verdict) → T (says? P v) → Says P v
 is-said P Clear t = is-clear P t
 is-said P (RingOf ring) t = is-ring-at P (ring .routine) (ring .name) t
 
+-- the share is the one that the rules give
+abbrev shares? : Program → Share → Bool
+shares? P s = share? P (s .percent) (s .remainder) (s .reached)
+
 -- a cell of a case is the one that the rules give
 abbrev cell? : Program → CellByte → Bool
 cell? P s = eqb (s .byte) (cellByte P (s .routine) (s .a) (s .b))
@@ -157,7 +126,8 @@ abbrev passes? : Case → Outcome → Bool
 passes? c (refused e) = false
 passes? c (accepted P) =
     settled? P
-    && (says? P (c .verdict) && (every? (cell? P) (c .cells) && models? P (rowsOf (length P) c)))
+    && (says? P (c .verdict)
+    && (shares? P (c .share) && (every? (cell? P) (c .cells) && models? P (rowsOf (length P) c))))
 
 -- what the test proves
 passed : (c : Case) (o : Outcome) → checkTable (c .table) ≡ o → T (passes? c o) → Holds c
@@ -166,17 +136,18 @@ passed c (accepted P) e t =
       program = P;
       accepts = e;
       says = is-said P (c .verdict) (w .1 .0);
+      shares = is-share P (c .share .percent) (c .share .remainder) (c .share .reached) (w .1 .1 .0);
       cell = λ s i.
-          is-cell P (w .0) (s .routine) (s .a) (s .b) (s .byte) (every-at (cell? P) (c .cells) s (w .1 .1 .0) i);
-      models = is-models P (w .0) (rowsOf (length P) c) (w .1 .1 .1);
+          is-cell P (w .0) (s .routine) (s .a) (s .b) (s .byte) (every-at (cell? P) (c .cells) s (w .1 .1 .1 .0) i);
+      models = is-models P (w .0) (rowsOf (length P) c) (w .1 .1 .1 .1);
     }
   where
     w :
-        T (settled? P) × (T (says? P (c .verdict))
-        × (T (every? (cell? P) (c .cells)) × T (models? P (rowsOf (length P) c))))
+        T (settled? P) × (T (says? P (c .verdict)) × (T (shares? P (c .share))
+        × (T (every? (cell? P) (c .cells)) × T (models? P (rowsOf (length P) c)))))
     w =
-        both (itself (settled? P)) (both (itself (says? P (c .verdict)))
-        (both (itself (every? (cell? P) (c .cells))) (itself (models? P (rowsOf (length P) c))))) .fact t
+        both (itself (settled? P)) (both (itself (says? P (c .verdict))) (both (itself (shares? P (c .share)))
+        (both (itself (every? (cell? P) (c .cells))) (itself (models? P (rowsOf (length P) c)))))) .fact t
 
 -- the test of a case, from its bytes
 abbrev holds? : Case → Bool
