@@ -435,27 +435,22 @@ fn without_ring(count: usize, reached: usize) -> Vec<u8> {
     plain(&bodies)
 }
 
+/// A body whose row has (1, 2) labelled several, over a local 3.
+const SEVERAL: [u8; 16] = [
+    NEW, FORK, LOCK, 1, LOCK, 3, END, END, END, LOCK, 3, LOCK, 2, END, END, END,
+];
+
+/// A body in which a fork and the routine's thread take two locks in opposite order.
+fn opposite(low: u8, high: u8) -> Vec<u8> {
+    vec![
+        FORK, LOCK, low, LOCK, high, END, END, END, LOCK, high, LOCK, low, END, END, END,
+    ]
+}
+
 /// Tables that tell which routines a share counts, what it counts of them, and how it is
 /// reckoned.
 pub fn share_rules() -> Vec<Case> {
     let one_then_two = [&nest(&[1, 2], &[])[..], &[END]].concat();
-    // A fork locks `low`, then `high`, and the routine's thread the other way round.
-    let opposite = |low, high| {
-        [
-            &fork(&nest(&[low, high], &[]))[..],
-            &nest(&[high, low], &[]),
-            &[END],
-        ]
-        .concat()
-    };
-    // (1, 2) several over a local 3.
-    let several = [
-        &[NEW][..],
-        &fork(&nest(&[1, 3], &[])),
-        &nest(&[3, 2], &[]),
-        &[END],
-    ]
-    .concat();
     // Routine 0 runs these items, which call routine 1, and routine 1 has a ring.
     let called_in = |items: &[u8]| plain(&[items, &RING]);
     let call = [CALL, 1];
@@ -592,7 +587,7 @@ pub fn share_rules() -> Vec<Case> {
         ),
         (
             "a pair labelled several is no ring",
-            called(&[2], &[&several]),
+            called(&[2], &[&SEVERAL]),
             clear(2),
         ),
         (
@@ -676,18 +671,8 @@ pub fn share_rules() -> Vec<Case> {
 fn pair_rules() -> Vec<Case> {
     let one_then_two = [LOCK, 1, LOCK, 2, END, END, END];
     let fork_one_then_two = [FORK, LOCK, 1, LOCK, 2, END, END, END, END];
-    // (1, 2) several over a local 3.
-    let several = [
-        NEW, FORK, LOCK, 1, LOCK, 3, END, END, END, LOCK, 3, LOCK, 2, END, END, END,
-    ];
     // Calls routine 2 with one name twice, then locks 1 and 2.
     let aliasing = [CALL, 2, 1, 1, LOCK, 1, LOCK, 2, END, END, END];
-    // A fork and the routine's thread take two locks in opposite order.
-    let opposite = |low: u8, high: u8| {
-        vec![
-            FORK, LOCK, low, LOCK, high, END, END, END, LOCK, high, LOCK, low, END, END, END,
-        ]
-    };
     let two_locals = [vec![NEW, NEW], opposite(1, 2)].concat();
 
     let mut all = Vec::new();
@@ -803,7 +788,7 @@ fn pair_rules() -> Vec<Case> {
     );
     put(
         "a ring from a call combines further",
-        called(&[2, 2], &[&aliasing, &several]),
+        called(&[2, 2], &[&aliasing, &SEVERAL]),
         ring(1, 1, [66, 2, 3]),
     );
     put(

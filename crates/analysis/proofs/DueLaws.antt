@@ -11,34 +11,24 @@ use lib.Bits.{bitOr, or-lt}
 use lib.Pow.{pow-pos, pow-lt}
 use Rattle.table.specs.laws.ScopeMask.{grows, shift-one}
 use Rattle.grid.specs.Rows.{Has, Bits}
-use Rattle.grid.specs.laws.Masks.{has-zero, has-below, has-left, has-right, has-pow}
+use Rattle.grid.specs.laws.Masks.{has-zero, has-below, has-left, has-right, has-pow, bits-map}
 use Rattle.analysis.specs.laws.Due.{Highest, All, Below, CallerAdded, Callers}
-use Rattle.analysis.proofs.MaskLaws.{top-below, add-top, has-top, less-bit}
+use Rattle.analysis.proofs.MaskLaws.{has-top, less-bit, Gathered, gathered-none, gathered-more}
+
+-- a mask of all numbers below r, as one of those with a property that all have
+abbrev Any : ℕ → Type 0
+Any q = Unit {0}
+
+to-all : (r m : ℕ) → Gathered Any r m → All r m
+to-all r m g = record { bits = bits-map (λ q h. h .0) (λ q h. (h, tt)) (g .bits); below = g .below }
 
 pub all-none : All 0 0
-all-none = record {
-  bits = record { to = λ p h. absurd (has-zero p h); from = λ p h. absurd (omega arith) };
-  below = omega arith;
-}
+all-none = to-all 0 0 (gathered-none Any)
 
 pub all-turn : (r m : ℕ) → r < 64 → All r m → All (r + 1) (m + (1 * 2 ^ r) % 18446744073709551616)
-all-turn r m l b = rw (shift-one r l) next
-  where
-    one : Bits (m + 2 ^ r) (λ j. (j ≡ r) ⊎ Has m j)
-    one = add-top m r (b .below)
-
-    next : All (r + 1) (m + 2 ^ r)
-    next = record {
-      bits = record {
-        to = λ p x. ⊎-elim (λ e. omega arith) (λ y. let g = b .bits .to p y in omega arith) (one .to p x);
-        from = λ p x. one .from p (step p x (ℕ-discrete p r));
-      };
-      below = top-below m r (b .below);
-    }
-      where
-        step : (p : ℕ) → p < r + 1 → Dec (p ≡ r) → (p ≡ r) ⊎ Has m p
-        step p x (yes e) = inl e
-        step p x (no n) = inr (b .bits .from p (omega arith))
+all-turn r m l b =
+    to-all (r + 1) (m + (1 * 2 ^ r) % 18446744073709551616) (gathered-more Any r m _ l tt refl
+    (record { bits = bits-map (λ q h. (h, tt)) (λ q h. h .0) (b .bits); below = b .below }))
 
 -- masks below 2 ^ r are below 2 ^ (r + 1), and so they are with r
 wider : (r m : ℕ) → m < 2 ^ r → m < 2 ^ (r + 1)

@@ -1,8 +1,8 @@
--- The bits of a mask counted, its lowest bit, and a mask that is put together bit by bit.
+-- The bits of a mask counted, and its lowest bit.
 use mathlib.Core.Path.{_≡_, refl, sym, ap, _∙_}
-use mathlib.Core.Logic.{_⊎_, inl, inr, ⊎-elim}
+use mathlib.Core.Logic.{inl, inr}
 use mathlib.Core.List.{List, [], _∷_, map}
-use Prim.Native.Nat.{ℕ, zero, suc, _+_, _*_, _/_, _%_, _^_, _≤_, _<_}
+use Prim.Native.Nat.{ℕ, zero, suc, _+_, _*_, _/_, _%_, _^_, _<_}
 use native.Mathlib.Nat.{div-one, pow-suc}
 use native.Mathlib.Omega.{arith}
 use native.Mathlib.Decide.{ℕ-discrete}
@@ -11,13 +11,11 @@ use lib.Count.{ones, ones-step, ones-le, trailingZeros, under}
 use lib.Pow.{shr-shr}
 use Rattle.table.specs.WellFormed.{In, NoDup}
 use Rattle.table.specs.laws.Lists.{In-map, NoDup-map}
-use Rattle.table.specs.laws.ScopeMask.{grows, shift-one}
 use Rattle.rules.specs.Share.{Count}
 use Rattle.rules.specs.laws.Share.{count-map}
 use Rattle.grid.specs.Rows.{Has, Bits}
 use Rattle.grid.specs.laws.Masks.{has-zero}
 use Rattle.analysis.specs.laws.Judging.{Lowest}
-use Rattle.analysis.proofs.MaskLaws.{add-top, top-below}
 
 -- the bits of a number above its lowest are those of its half
 half-bit : (m j : ℕ) → m / 2 / 2 ^ j % 2 ≡ m / 2 ^ suc j % 2
@@ -57,7 +55,10 @@ module _ (m : ℕ) (half : Count (Has (m / 2)) (ones (m / 2))) where
   count-odd : m % 2 ≡ 1 → Count (Has m) (ones m)
   count-odd e = record {
     list = 0 ∷ map suc (half .list);
-    once = ((λ h. let w = above 0 h in let z : 0 ≡ suc (w .0) = w .2 in omega arith), suc-once (half .list) (half .once));
+    once = (
+      (λ h. let w = above 0 h in let z : 0 ≡ suc (w .0) = w .2 in omega arith),
+      suc-once (half .list) (half .once),
+    );
     only = only;
     all = all;
     size = omega (arith, length-map (half .list) suc, half .size, ones-step m);
@@ -124,46 +125,3 @@ lowest-below (suc k) m p l = by (m % 2) refl (lowest-below k (m / 2))
         let half = rest (omega arith) (omega arith) in
         record { bit = has-half m (trailingZeros k (m / 2)) (half .bit); lowest = none e half }
     by (suc b) e rest = record { bit = has-odd m (omega arith); lowest = λ q s h. absurd (omega arith) }
-
--- a mask of the numbers below r that have the property Q
-module _ (Q : ℕ → Type 0) where
-  pub record Gathered (r m : ℕ) : Type 0 where
-    pub bits : Bits m (λ q. (q < r) × Q q)
-    pub below : m < 2 ^ r
-
-  pub gathered-none : Gathered 0 0
-  gathered-none = record {
-    bits = record { to = λ q h. absurd (has-zero q h); from = λ q h. absurd (let l : q < 0 = h .0 in omega arith) };
-    below = omega arith;
-  }
-
-  -- r has it
-  pub gathered-more : (r m n : ℕ) → r < 64 → Q r → n ≡ m + (1 * 2 ^ r) % 18446744073709551616 → Gathered r m
-      → Gathered (r + 1) n
-  gathered-more r m n s has e g = rw (e, shift-one r s) (record { bits = bits; below = top-below m r (g .below) })
-    where
-      one : Bits (m + 2 ^ r) (λ q. (q ≡ r) ⊎ Has m q)
-      one = add-top m r (g .below)
-
-      last : (q : ℕ) → q < r + 1 → (q ≡ r) ⊎ (q < r)
-      last q k = elim (ℕ-discrete q r) [ yes z ↦ inl z | no z ↦ inr (omega arith) ]
-
-      bits : Bits (m + 2 ^ r) (λ q. (q < r + 1) × Q q)
-      bits = record {
-        to = λ q h. ⊎-elim (λ z. (omega arith, rw z has))
-            (λ x. let w = g .bits .to q x in let k : q < r = w .0 in (omega arith, w .1)) (one .to q h);
-        from = λ q h. one .from q (⊎-elim (λ z. inl z) (λ k. inr (g .bits .from q (k, h .1))) (last q (h .0)));
-      }
-
-  -- r has it not
-  pub gathered-same : (r m n : ℕ) → (Q r → ⊥) → n ≡ m → Gathered r m → Gathered (r + 1) n
-  gathered-same r m n none e g = rw e (record {
-    bits = record {
-      to = λ q h. let w = g .bits .to q h in let k : q < r = w .0 in (omega arith, w .1);
-      from = λ q h. elim (ℕ-discrete q r) [
-        | yes z ↦ absurd (none (rw z at (h .1)))
-        | no z ↦ g .bits .from q ((let k : q < r + 1 = h .0 in omega arith), h .1)
-      ];
-    };
-    below = let d : 2 ^ r ≤ 2 ^ (r + 1) = grows r (r + 1) (omega arith) in let l = g .below in omega arith;
-  })

@@ -1,17 +1,17 @@
--- Masks as numbers: a new highest bit is added as its power of two, and any bit is taken off in the same way; what a
--- mask has in common with a union that it is a part of.
+-- Masks as numbers: a new highest bit is added as its power of two, so that a mask is put together bit by bit, and any
+-- bit is taken off in the same way; what a mask has in common with a union that it is a part of.
 use mathlib.Core.Path.{_≡_, sym, ap, _∙_}
-use mathlib.Core.Logic.{_≢_, _⊎_, inl, inr}
+use mathlib.Core.Logic.{_≢_, _⊎_, inl, inr, ⊎-elim}
 use Prim.Native.Nat.{ℕ, zero, suc, _+_, _-_, _*_, _/_, _%_, _^_, _≤_, _<_}
 use native.Mathlib.Nat.{div-eq-of-lt, div-eq-of-lt-le, div-eq-sub-div, mod-lt}
 use native.Mathlib.Omega.{arith}
-use native.Mathlib.Decide.{decLt}
+use native.Mathlib.Decide.{ℕ-discrete, decLt}
 use lib.Bits.{bitAnd, bitOr, and-step, and-zero-r, or-step}
 use lib.Count.{leadingZeros, leading-top}
 use lib.Pow.{pow-pos, field, mod-mod-pow, shr-shr}
 use Rattle.table.specs.laws.ScopeMask.{grows, double, lower, shift-one}
 use Rattle.grid.specs.Rows.{Has, Bits}
-use Rattle.grid.specs.laws.Masks.{has-below}
+use Rattle.grid.specs.laws.Masks.{has-zero, has-below}
 use Rattle.analysis.specs.laws.Due.{Highest}
 
 next-power : (r : ℕ) → 2 ^ (r + 1) ≡ 2 ^ r + 2 ^ r
@@ -141,3 +141,46 @@ and-part (suc k) a b l =
     let rest : bitAnd (bitOr a b / 2) (b / 2) ≡ b / 2 =
     ap (λ (v : ℕ). bitAnd v (b / 2)) half ∙ and-part k (a / 2) (b / 2) (omega arith) in
     omega (arith, and-step (bitOr a b) b, or-step a b)
+
+-- a mask of the numbers below r that have the property Q
+module _ (Q : ℕ → Type 0) where
+  pub record Gathered (r m : ℕ) : Type 0 where
+    pub bits : Bits m (λ q. (q < r) × Q q)
+    pub below : m < 2 ^ r
+
+  pub gathered-none : Gathered 0 0
+  gathered-none = record {
+    bits = record { to = λ q h. absurd (has-zero q h); from = λ q h. absurd (let l : q < 0 = h .0 in omega arith) };
+    below = omega arith;
+  }
+
+  -- r has it
+  pub gathered-more : (r m n : ℕ) → r < 64 → Q r → n ≡ m + (1 * 2 ^ r) % 18446744073709551616 → Gathered r m
+      → Gathered (r + 1) n
+  gathered-more r m n s has e g = rw (e, shift-one r s) (record { bits = bits; below = top-below m r (g .below) })
+    where
+      one : Bits (m + 2 ^ r) (λ q. (q ≡ r) ⊎ Has m q)
+      one = add-top m r (g .below)
+
+      last : (q : ℕ) → q < r + 1 → (q ≡ r) ⊎ (q < r)
+      last q k = elim (ℕ-discrete q r) [ yes z ↦ inl z | no z ↦ inr (omega arith) ]
+
+      bits : Bits (m + 2 ^ r) (λ q. (q < r + 1) × Q q)
+      bits = record {
+        to = λ q h. ⊎-elim (λ z. (omega arith, rw z has))
+            (λ x. let w = g .bits .to q x in let k : q < r = w .0 in (omega arith, w .1)) (one .to q h);
+        from = λ q h. one .from q (⊎-elim (λ z. inl z) (λ k. inr (g .bits .from q (k, h .1))) (last q (h .0)));
+      }
+
+  -- r has it not
+  pub gathered-same : (r m n : ℕ) → (Q r → ⊥) → n ≡ m → Gathered r m → Gathered (r + 1) n
+  gathered-same r m n none e g = rw e (record {
+    bits = record {
+      to = λ q h. let w = g .bits .to q h in let k : q < r = w .0 in (omega arith, w .1);
+      from = λ q h. elim (ℕ-discrete q r) [
+        | yes z ↦ absurd (none (rw z at (h .1)))
+        | no z ↦ g .bits .from q ((let k : q < r + 1 = h .0 in omega arith), h .1)
+      ];
+    };
+    below = let d : 2 ^ r ≤ 2 ^ (r + 1) = grows r (r + 1) (omega arith) in let l = g .below in omega arith;
+  })

@@ -132,7 +132,13 @@ module _ (calls : List ℕ) where
         omega arith
 
     pub visit : Visit mask left r
-    visit = record { there = called-there; small = small; taken = bit-taken; again = followed-more; less = followed-less }
+    visit = record {
+      there = called-there;
+      small = small;
+      taken = bit-taken;
+      again = followed-more;
+      less = followed-less;
+    }
 
   -- routine 0 was visited
   pub followed-first : CanReach calls → getD calls 0 0 < 18446744073709551616

@@ -68,7 +68,8 @@ pub record AcceptedAs (table : List ℕ) (n : ℕ) : Type 0 where
   pub there : n + 3 ≤ length table
   pub holds : Holds program (take (n + 1 - 1) (drop 1 table)) (take (length table - (n + 3)) (drop (n + 3) table))
 
-pub accepted-as : (table : List ℕ) (n items : ℕ) → Bytes table → Accepted n items ≡ checkedOf (checkTable table) → AcceptedAs table n
+pub accepted-as : (table : List ℕ) (n items : ℕ) → Bytes table → Accepted n items ≡ checkedOf (checkTable table)
+    → AcceptedAs table n
 accepted-as table n items bytes e =
     let o = accepted-of (checkTable table) n items e in
     record {

@@ -12,7 +12,7 @@ use Rattle.table.specs.laws.Accepts.{Bytes, accepted-few}
 use Rattle.table.specs.laws.Sound.{sound}
 use Rattle.table.specs.laws.Formed.{well-formed}
 use Rattle.rules.specs.laws.Share.{percent-few, whole-exact, reached-few}
-use Rattle.analysis.specs.Answer.{Shares, Analysed}
+use Rattle.analysis.specs.Answer.{short-buffer, Shares, Analysed}
 use Rattle.analysis.specs.declared.Share.{Share}
 use Rattle.analysis.specs.declared.Verdict.{Verdict}
 use Rattle.analysis.specs.declared.Answer.{Answer}
@@ -54,7 +54,7 @@ module _ (T before after : List ℕ) (answer : Answer) (h : Analysed T before af
         }
 
     sized : (P : Program) → checkTable T ≡ accepted P → Dec (length before < row-bytes * length P) → Small s
-    sized P c (yes lt) = absurd (not-refused v s 15 j (h .refused-buffer P c lt .0))
+    sized P c (yes lt) = absurd (not-refused v s short-buffer j (h .refused-buffer P c lt .0))
     sized P c (no ge) =
         let w = h .judged P c (omega arith) in
         let same : Judged (w .0) (w .1) ≡ Judged v s = sym (w .2) ∙ j in

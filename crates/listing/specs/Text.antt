@@ -95,7 +95,8 @@ listing n model (Refused e) = line refused-word (e ∷ [])
 abbrev pub over : List ℕ → List ℕ → List ℕ
 over text before = take (length before) text ++ drop (length text) before
 
--- how long a listing is at most: the first line, a line of 16 bytes for each cell of each routine, and the last two lines
+-- how long a listing is at most: the first line, a line of 16 bytes for each cell of each routine, the share's line and
+-- the verdict's
 abbrev pub longest : ℕ
 longest = 12 + most-routines * row-cells * 16 + 15 + 11
 

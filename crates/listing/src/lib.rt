@@ -24,7 +24,8 @@ use table::limits::MOST_ROUTINES;
 use table::limits::ROW_CELLS;
 use table::scope::size;
 
-// How long a listing is at most: the first line, a line of 16 bytes for each cell of each routine, and the last two lines.
+// How long a listing is at most: the first line, a line of 16 bytes for each cell of each routine, the share's line and
+// the verdict's.
 pub const LONGEST: usize = 12 + MOST_ROUTINES * ROW_CELLS * 16 + 15 + 11;
 
 // The table's first byte, the number of its routines; 0 of an empty one.
@@ -37,8 +38,8 @@ fn routines(table: &[u8]) -> usize
 // Writes the listing of a table of n routines that was judged.
 fn list_judged(out: &mut [u8], n: usize, model: &[u8], verdict: Verdict, share: Share) -> usize
     requires { ⌜ (n ≤ most-routines) × Short verdict × Small share ⌝ }
-    ensures { λ p. ⌜ Appends 0 (listing n (now (model .entry)) (Judged verdict share)) (now (out .entry)) (now (out .exit))
-        p ⌝ }
+    ensures { λ p. ⌜ Appends 0 (listing n (now (model .entry)) (Judged verdict share)) (now (out .entry))
+        (now (out .exit)) p ⌝ }
     ensures few { λ p. ⌜ p ≤ longest ⌝ }
 {
     let after_routines = put_line(out, 0, b"routines", n as u64);

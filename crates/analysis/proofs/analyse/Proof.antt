@@ -17,10 +17,12 @@ use Rattle.analysis.proofs.analyse.Lts as lts
 -- the place where the check has accepted the table
 abbrev AtAccepted : Type 0
 AtAccepted =
-    lts.After-routines (check-reads.Asked, check-reads.Learnt, judge-reads.Asked, judge-reads.Learnt) reads.Pre reads.Post
+    lts.After-routines (check-reads.Asked, check-reads.Learnt, judge-reads.Asked, judge-reads.Learnt) reads.Pre
+    reads.Post
 
 -- and what is known of the table there
-accepted-at : (a : AtAccepted) → AcceptedAs (a .before .before .before .before .before .args .table .now) (a .routines .given .0 .0)
+accepted-at : (a : AtAccepted)
+    → AcceptedAs (a .before .before .before .before .before .args .table .now) (a .routines .given .0 .0)
 accepted-at a =
     let checked = a .before .before in
     accepted-as _ _ _ (λ i. omega (arith, checked .before .before .shared-slice-known .given i))

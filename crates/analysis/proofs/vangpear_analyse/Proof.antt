@@ -15,7 +15,8 @@ enum-known-v c = search needs
 verdict-number-requires : tie.Need-verdict-number-requires
 verdict-number-requires c κs =
     let r = c .before .before .before .before .before .analyse in
-    short-verdict (r .result) (c .before .v .given .0 .0) (c .before .v .given .0 .1 .0) (r .ensures .1) (c .before .v .given .1)
+    let judged = c .before .v .given in
+    short-verdict (r .result) (judged .0 .0) (judged .0 .1 .0) (r .ensures .1) (judged .1)
 
 cast-result : tie.Need-cast-result
 cast-result c = let h = c .verdict-number .ensures .1 in search needs

@@ -50,7 +50,8 @@ returns c =
     let f = c .before .before .list-judged .ensures in
     let n = c .before .before .before .before .routines .ensures .0 in
     let judged = c .before .before .before .before .before .before .before in
-    (listed _ _ _ _ (judged .before .before .before .before .analyse .ensures .0) _ _ n (judged .verdict .given .1) (f .0), f .1)
+    let h = judged .before .before .before .before .analyse .ensures .0 in
+    (listed _ _ _ _ h _ _ n (judged .verdict .given .1) (f .0), f .1)
 
 same-length-3 : tie.Need-same-length-3
 same-length-3 c = search needs
