@@ -15,11 +15,11 @@ use crate::limits::{RING_BASE, RING_NAME, RING_ROUTINE};
 
 /// Names of a routine: name 0, the parameters and the locals.
 const NAMES: usize = 16;
-/// Labels: own 0, the forks 1 to 8, then these two.
-const LABELS: usize = 11;
+/// Labels: own, the forks from 1 on, unknown, several; and how many there are.
 const OWN: usize = 0;
-const UNKNOWN: usize = 9;
-const SEVERAL: usize = 10;
+const UNKNOWN: usize = MAX_FORK as usize + 1;
+const SEVERAL: usize = MAX_FORK as usize + 2;
+const LABELS: usize = MAX_FORK as usize + 3;
 /// The holder where nothing is held.
 const NOTHING: u8 = 16;
 /// A CALL with a name takes three bytes or more.

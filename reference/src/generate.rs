@@ -708,6 +708,7 @@ fn joined(parts: &[&[u8]]) -> Vec<u8> {
 pub fn boundaries() -> Vec<Boundary> {
     use code::*;
 
+    let most_forks = usize::from(MAX_FORK);
     let mut all = Vec::new();
     let mut put = |what: &'static str, table: Vec<u8>, refusal: Option<u32>| {
         all.push(Boundary {
@@ -775,8 +776,8 @@ pub fn boundaries() -> Vec<Boundary> {
     put(
         "4,096 body bytes",
         one(&joined(&[
-            &repeated(&[FORK, END], 8),
-            &repeated(&[CALL, 0], 2039),
+            &repeated(&[FORK, END], most_forks),
+            &repeated(&[CALL, 0], 2047 - most_forks),
             &[NEW, END],
         ])),
         None,
@@ -976,10 +977,11 @@ pub fn boundaries() -> Vec<Boundary> {
         None,
     );
     put(
-        "a ninth FORK that is a seventeenth block",
+        "one FORK more than the most that is a seventeenth block",
         two(
             1,
             &joined(&[
+                &repeated(&[FORK, END], most_forks - 8),
                 &repeated(&[LOCK, 1, FORK], 8),
                 &[FORK],
                 &repeated(&[END], 18),
@@ -1039,13 +1041,13 @@ pub fn boundaries() -> Vec<Boundary> {
         Some(refusal::TOO_MANY),
     );
     put(
-        "8 FORK",
-        one(&joined(&[&repeated(&[FORK, END], 8), &[END]])),
+        "the most FORK",
+        one(&joined(&[&repeated(&[FORK, END], most_forks), &[END]])),
         None,
     );
     put(
-        "9 FORK",
-        one(&joined(&[&repeated(&[FORK, END], 9), &[END]])),
+        "one FORK more than the most",
+        one(&joined(&[&repeated(&[FORK, END], most_forks + 1), &[END]])),
         Some(refusal::TOO_MANY),
     );
     put(
@@ -1062,11 +1064,11 @@ pub fn boundaries() -> Vec<Boundary> {
         Some(refusal::TOO_MANY),
     );
     put(
-        "a ninth FORK at depth 15",
+        "one FORK more than the most, at depth 15",
         two(
             1,
             &joined(&[
-                &repeated(&[FORK, END], 8),
+                &repeated(&[FORK, END], most_forks),
                 &repeated(&[LOCK, 1], 15),
                 &[FORK],
             ]),
@@ -1313,7 +1315,7 @@ mod tests {
                 forks = forks.max(fork);
             }
         }
-        assert_eq!((open, news, forks), (16, 8, 8));
+        assert_eq!((open, news, forks), (16, 8, MAX_FORK));
     }
 
     /// Where a table has a LOCK that its thread's nest passes over although another

@@ -6,17 +6,17 @@ use Prim.Native.Nat.{ℕ, _<_}
 use native.Mathlib.Omega.{arith}
 use lib.ListN.{getD}
 use Rattle.rules.specs.Label.{Label, own, forked, unknown, several, combine}
-use Rattle.rules.specs.Number.{number, labelOf}
+use Rattle.rules.specs.Number.{number, labelOf, labels}
 use Rattle.rules.specs.Model.{Kept}
 use Rattle.rules.specs.laws.Closure.{Closed, given, follows}
-use Rattle.rules.specs.laws.Number.{label-of-number, number-of-label, number-le}
+use Rattle.rules.specs.laws.Number.{label-of-number, number-lt}
 use Rattle.grid.specs.Rows.{Has, Edge, SomeRow, Walk, Same, Bits}
 use Rattle.grid.specs.Grid.{cell, Pair, Small, AllKept, Closure}
 use Rattle.grid.specs.Planes.{Labelled, RowLabels, Sole, PlanesOf, Within, Plane, MixOf, SeveralOf}
 use Rattle.grid.specs.Planes.{Grown, InPlane, InWalks, InPlanes, Follows}
 use Rattle.grid.specs.laws.Walks.{Of, Any, Mix, Mixed, Says, walk-back, star-back, first, says, said, walked}
 use Rattle.grid.specs.laws.Masks.{has-zero}
-use Rattle.grid.specs.laws.Labels.{in-has, in-range, keeps}
+use Rattle.grid.specs.laws.Labels.{in-has, in-range, keeps, not-several}
 use Rattle.grid.proofs.Relations.{same-walk}
 use Rattle.grid.proofs.Growing.{grown-none, grown-then, grown-map}
 
@@ -50,7 +50,7 @@ module _ (g r : List (List ℕ)) (grown : Grown g (Follows g) r) (kept : AllKept
       (grown .row a .to b (w .0) (w .3))
 
   -- a walk of a named label is in r
-  walk-told : (n a b : ℕ) → n < 9 → a ≢ b → Walk (Labelled g n) b a → Has (cell r a b) n
+  walk-told : (n a b : ℕ) → n < number unknown → a ≢ b → Walk (Labelled g n) b a → Has (cell r a b) n
   walk-told n a b h d w = grown .row a .from b n (inr (inl (h, (λ x. d (sym x), w))))
 
   -- what a label says is in r
@@ -65,7 +65,7 @@ module _ (g r : List (List ℕ)) (grown : Grown g (Follows g) r) (kept : AllKept
         walk-told i a b (omega arith) (w .0) (walk-back (pair-edge g (forked i)) (w .1)),
       )
   told unknown a b w = (w .0, w .1, w .2, grown .row a .from b (w .0) (inl (w .3)))
-  told several a b w = (10, omega arith, refl, grown .row a .from b 10 (inr (inr (refl, w))))
+  told several a b w = (number several, omega arith, refl, grown .row a .from b (number several) (inr (inr (refl, w))))
 
   pub closure : Small r → Closure g r
   closure small = record {
@@ -77,31 +77,32 @@ module _ (g r : List (List ℕ)) (grown : Grown g (Follows g) r) (kept : AllKept
 
 -- p is the planes of g
 module _ (g p : List (List ℕ)) (planes : PlanesOf g p) where
-  -- the pairs of the grid are those of the planes, backwards
-  number-lt : (l : Label) (a b : ℕ) → Pair g a b l → number l < 11
-  number-lt l a b w = let h = number-le l (in-range (cell g a b) l w) in omega arith
+  -- the label of a pair has a number
+  pair-number : (l : Label) (a b : ℕ) → Pair g a b l → number l < labels
+  pair-number l a b w = number-lt l (in-range (cell g a b) l w)
 
-  edge-pair : (l b a : ℕ) → l < 11 → Edge (getD p l []) b a → Pair g a b (labelOf l)
+  -- the pairs of the grid are those of the planes, backwards
+  edge-pair : (l b a : ℕ) → l < labels → Edge (getD p l []) b a → Pair g a b (labelOf l)
   edge-pair l b a h e = (l, h, refl, planes l h .to b a e)
 
   plane-edge : (l : Label) (a b : ℕ) → Pair g a b l → Edge (getD p (number l) []) b a
-  plane-edge l a b w = planes (number l) (number-lt l a b w) .from b a (pair-edge g l a b w)
+  plane-edge l a b w = planes (number l) (pair-number l a b w) .from b a (pair-edge g l a b w)
 
   -- and so are the pairs of any label, the mixes, and the mixes with walks
   any-to : (b a : ℕ) → Plane p b a → Any (Pair g) a b
   any-to b a w = (labelOf (w .0), edge-pair (w .0) b a (w .1) (w .2))
 
   any-from : (a b : ℕ) → Any (Pair g) a b → Plane p b a
-  any-from a b w = (number (w .0), number-lt (w .0) a b (w .1), plane-edge (w .0) a b (w .1))
+  any-from a b w = (number (w .0), pair-number (w .0) a b (w .1), plane-edge (w .0) a b (w .1))
 
   mix-to : (b a : ℕ) → MixOf p b a → Mix (Pair g) a b
-  mix-to b a (inl e) = inl (edge-pair 10 b a (omega arith) e)
+  mix-to b a (inl e) = inl (edge-pair (number several) b a (omega arith) e)
   mix-to b a (inr w) =
       let v = w .2 in
       let u = v .2 in
       let later = edge-pair (w .0) b (v .0) (w .1) (v .1) in
-      let first = edge-pair (u .0) (v .0) a (u .1 .0) (u .2) in
-      inr (v .0, labelOf (u .0), labelOf (w .0), first, later, u .1 .1)
+      let first = edge-pair (u .0) (v .0) a (u .1) (u .3) in
+      inr (v .0, labelOf (u .0), labelOf (w .0), first, later, u .2)
 
   mix-from : (a b : ℕ) → Mix (Pair g) a b → MixOf p b a
   mix-from a b (inl w) = inl (plane-edge several a b w)
@@ -115,7 +116,7 @@ module _ (g p : List (List ℕ)) (planes : PlanesOf g p) where
       (w .5) in
       let later = plane-edge m y b (w .4) in
       let first = plane-edge l a y (w .3) in
-      inr (number m, number-lt m y b (w .4), (y, later, (number l, (number-lt l a y (w .3), e), first)))
+      inr (number m, pair-number m y b (w .4), (y, later, (number l, pair-number l a y (w .3), e, first)))
 
   mixed-to : (b a : ℕ) → SeveralOf p b a → Mixed (Pair g) a b
   mixed-to b a w = (w .1, w .0, star-back any-to (w .4), mix-to (w .0) (w .1) (w .3), star-back any-to (w .2))
@@ -125,8 +126,8 @@ module _ (g p : List (List ℕ)) (planes : PlanesOf g p) where
 
   -- what the named planes and then several add is what follows
   pub all-grown :
-      (n r : List (List ℕ)) (s : List ℕ) → Same (Edge s) (SeveralOf p) → Grown g (InPlanes 9 p) n
-      → Grown n (InPlane s 10) r → Grown g (Follows g) r
+      (n r : List (List ℕ)) (s : List ℕ) → Same (Edge s) (SeveralOf p) → Grown g (InPlanes (number unknown) p) n
+      → Grown n (InPlane s (number several)) r → Grown g (Follows g) r
   all-grown n r s mixes named last =
       grown-map
       (λ a b k. ⊎-elim
@@ -144,20 +145,17 @@ pub within :
 within g p u c planes rows bits l h b a e = bits .from l (a, rows .from a l (b, planes l h .to b a e))
 
 -- c has the labels of all pairs, and l is the one label, own or a fork
-module _ (g : List (List ℕ)) (u : List ℕ) (c l : ℕ)
-    (rows : Same (Edge u) (RowLabels g)) (bits : Bits c (SomeRow u)) (named : l < 9) (sole : Sole c l) where
+module _ (g : List (List ℕ)) (u : List ℕ) (c l : ℕ) (rows : Same (Edge u) (RowLabels g))
+    (bits : Bits c (SomeRow u)) (named : l < number unknown) (sole : Sole c l) where
   -- each pair is labelled l, so that no two of them mix
   labelled : (m : Label) (a b : ℕ) → Pair g a b m → m ≡ labelOf l
   labelled m a b w = w .2 ∙ ap labelOf (sole named (w .0) (bits .from (w .0) (a, rows .from a (w .0) (b, w .3))))
 
-  not-several : labelOf l ≡ several → ⊥
-  not-several e = let z : l ≡ 10 = sym (number-of-label l (omega arith)) ∙ ap number e in omega arith
-
   no-mix : (a b : ℕ) → Mix (Pair g) a b → ⊥
-  no-mix a b (inl w) = not-several (sym (labelled several a b w))
+  no-mix a b (inl w) = not-several l named (sym (labelled several a b w))
   no-mix a b (inr w) =
       let e = rw (labelled (w .1) a (w .0) (w .3), labelled (w .2) (w .0) b (w .4)) at (w .5) in
-      not-several (sym (keeps l named) ∙ e)
+      not-several l named (sym (keeps l named) ∙ e)
 
   only-walks : (a b k : ℕ) → Follows g a b k → InWalks (Labelled g l) l a b k
   only-walks a b k (inl w) =

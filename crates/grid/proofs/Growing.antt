@@ -7,6 +7,7 @@ use native.Mathlib.Omega.{arith}
 use native.Mathlib.Decide.{ℕ-discrete}
 use lib.ListN.{getD, set, length}
 use lib.Seq.{getD-set-same, getD-set-other}
+use Rattle.rules.specs.Number.{labels}
 use Rattle.grid.specs.Rows.{Has, Rel, Edge, Or, Less, Apart, Walk, Same}
 use Rattle.grid.specs.Grid.{cell, Small}
 use Rattle.grid.specs.Planes.{PlaneIn, Grown, InPlane, InWalks, InPlanes}
@@ -69,16 +70,18 @@ walks-grown g t r w v d l inside walks apart less grown =
     back a b k p (no e) =
         inr (p .0, less .from b a (apart .from b a (p .1 .0, walks .from b a (p .1 .1)), e))
 
--- a row with a label number below 11 added has small masks, and so has the grid with that row
+-- a row with a label number added has small masks, and so has the grid with that row
 pub small-put :
-    (g : List (List ℕ)) (i l : ℕ) (t : List ℕ) (q : ℕ → Type 0) → i < length g → l < 11 → Small g
-    → ((b : ℕ) → getD t b 0 < 65536) → Same (Edge t) (Or (Edge (getD g i [])) (λ b k. (k ≡ l) × q b)) → Small (set g i t)
+    (g : List (List ℕ)) (i l : ℕ) (t : List ℕ) (q : ℕ → Type 0) → i < length g → l < labels → Small g
+    → ((b : ℕ) → getD t b 0 < 65536) → Same (Edge t) (Or (Edge (getD g i [])) (λ b k. (k ≡ l) × q b))
+    → Small (set g i t)
 small-put g i l t q h m small fits s x y =
     elim (ℕ-discrete x i) [
       | yes e ↦
           rw (e, getD-set-same g i t [] h)
-          (below-bits 11 (getD t y 0) (fits y)
-          (λ k p. ⊎-elim (λ u. has-below (cell g i y) 11 k (small i y) u) (λ u. let z = u .0 in omega arith) (s .to y k p)))
+          (below-bits labels (getD t y 0) (fits y)
+          (λ k p.
+          ⊎-elim (λ u. has-below (cell g i y) labels k (small i y) u) (λ u. let z = u .0 in omega arith) (s .to y k p)))
       | no e ↦ rw (getD-set-other g i x t [] e) (small x y)
     ]
 

@@ -2,18 +2,18 @@
 use mathlib.Core.Path.{_≡_, sym, ap, _∙_}
 use mathlib.Core.Logic.{_≢_, _⊎_, inl, inr, ⊎-elim}
 use mathlib.Core.List.{List, []}
-use Prim.Native.Nat.{ℕ, _*_, _%_, _^_, _<_, _≤_}
+use Prim.Native.Nat.{ℕ, _^_, _<_, _≤_}
 use native.Mathlib.Omega.{arith}
 use native.Mathlib.Decide.{decLt, ℕ-discrete}
 use lib.ListN.{getD, set, length, replicate}
 use lib.Seq.{getD-set-same, getD-set-other}
 use lib.Bits.{bitOr, or-lt}
 use Rattle.rules.specs.Label.{Label, several}
-use Rattle.rules.specs.Number.{number, labelOf}
+use Rattle.rules.specs.Number.{number, labelOf, labels}
 use Rattle.rules.specs.Model.{Kept}
 use Rattle.grid.specs.Rows.{Has, Bits}
 use Rattle.grid.specs.Grid.{cell, In, Pair, Small, KeptIn, Empty, Added}
-use Rattle.grid.specs.laws.Masks.{has-below, below-bits, bits-self, bits-or, bits-one}
+use Rattle.grid.specs.laws.Masks.{has-below, below-bits, bits-self, bits-or}
 use Rattle.grid.proofs.Shapes.{zero-cell, zero-pair}
 use Rattle.grid.specs.laws.Labels.{in-number, in-has}
 
@@ -48,11 +48,11 @@ module _ (g : List (List ℕ)) (a b k : ℕ) (ha : a < length g) (hb : b < lengt
   put-bits = rw cell-here (bits-or (bits-self (cell g a b)) (bits-self k))
 
   -- the pairs of the labels of m, where k has those of m that are kept
-  pub added : (m : ℕ) → k < 65536 → m < 2048 → Small g → Bits k (KeptIn a b m) → Added g a b (In m) (put g a b k)
+  pub added : (m : ℕ) → k < 65536 → m < 2 ^ labels → Small g → Bits k (KeptIn a b m) → Added g a b (In m) (put g a b k)
   added m hk hm small bits = record {
     small = λ x y.
         ⊎-elim
-        (λ e. rw (e .0, e .1, cell-here) (or-lt 11 (cell g a b) k (small a b) low))
+        (λ e. rw (e .0, e .1, cell-here) (or-lt labels (cell g a b) k (small a b) low))
         (λ e. rw e (small x y))
         (cell-case x y);
     kept = λ h x y l w. ⊎-elim (λ q. h x y l q) (λ q. rw (q .0, q .1) (q .3)) (only x y l w);
@@ -61,18 +61,18 @@ module _ (g : List (List ℕ)) (a b k : ℕ) (ha : a < length g) (hb : b < lengt
     new = λ l w h. (w .0, w .1, w .2, put-bits .from (w .0) (inr (bits .from (w .0) (w .3, numbered l w h))));
   }
     where
-      low : k < 2 ^ 11
-      low = below-bits 11 k hk (λ j h. has-below m 11 j hm (bits .to j h .0))
+      low : k < 2 ^ labels
+      low = below-bits labels k hk (λ j h. has-below m labels j hm (bits .to j h .0))
 
       stays : (x y j : ℕ) → Has (cell g x y) j → Has (cell (put g a b k) x y) j
       stays x y j h =
           ⊎-elim (λ e. rw (e .0, e .1) (put-bits .from j (inl (rw (e .0, e .1) at h)))) (λ e. rw e h) (cell-case x y)
 
-      named : (n : ℕ) (l : Label) → l ≡ labelOf n → (a ≢ b) ⊎ (n ≡ 10) → Kept a b l
+      named : (n : ℕ) (l : Label) → l ≡ labelOf n → (a ≢ b) ⊎ (n ≡ number several) → Kept a b l
       named n l e (inl h) = inl h
       named n l e (inr h) = inr (e ∙ ap labelOf h)
 
-      numbered : (l : Label) (w : In m l) → Kept a b l → (a ≢ b) ⊎ (w .0 ≡ 10)
+      numbered : (l : Label) (w : In m l) → Kept a b l → (a ≢ b) ⊎ (w .0 ≡ number several)
       numbered l w (inl h) = inl h
       numbered l w (inr h) = inr (sym (in-number m l w) ∙ ap number h)
 
@@ -89,18 +89,6 @@ module _ (g : List (List ℕ)) (a b k : ℕ) (ha : a < length g) (hb : b < lengt
           (λ e. inl (w .0, w .1, w .2, rw e at (w .3)))
           (cell-case x y)
 
--- the same pairs, in other words
-pub added-map :
-    (g r : List (List ℕ)) (a b : ℕ) (L M : Label → Type 0) → ((l : Label) → L l → M l) → ((l : Label) → M l → L l)
-    → Added g a b L r → Added g a b M r
-added-map g r a b L M f h p = record {
-  small = p .small;
-  kept = p .kept;
-  only = λ x y l w. ⊎-elim (λ q. inl q) (λ q. inr (q .0, q .1, f l (q .2), q .3)) (p .only x y l w);
-  old = p .old;
-  new = λ l w k. p .new l (h l w) k;
-}
-
 -- the grid of zeros
 pub empty-grid : (n m : ℕ) → Empty (replicate n (replicate m 0))
 empty-grid n m = record {
@@ -109,14 +97,10 @@ empty-grid n m = record {
   none = λ a b l w. zero-pair n m a b (w .0) (w .3);
 }
 
--- a mask of one label is below 2048
-pub one-small : (n : ℕ) → n < 11 → 1 * 2 ^ n % 65536 < 2048
-one-small n h =
-    below-bits 11 (1 * 2 ^ n % 65536) (omega arith) (λ k p. let e = bits-one n (omega arith) .to k p in omega arith)
-
 -- no name below x has a ring
 pub no-lower :
-    (g : List (List ℕ)) (x : ℕ) → ((y : ℕ) → y < x → Has (cell g y y) 10 → ⊥) → (y : ℕ) → Pair g y y several → x ≤ y
+    (g : List (List ℕ)) (x : ℕ) → ((y : ℕ) → y < x → Has (cell g y y) (number several) → ⊥)
+    → (y : ℕ) → Pair g y y several → x ≤ y
 no-lower g x h y w =
     elim (decLt y x) [
       | yes p ↦ absurd (h y p (in-has (cell g y y) several w))

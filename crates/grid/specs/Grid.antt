@@ -2,11 +2,11 @@
 use mathlib.Core.Path.{_≡_}
 use mathlib.Core.Logic.{_≢_, _⊎_}
 use mathlib.Core.List.{List, []}
-use Prim.Native.Nat.{ℕ, _<_, _≤_}
+use Prim.Native.Nat.{ℕ, _^_, _<_, _≤_}
 use lib.ListN.{getD, length}
 use Rattle.table.specs.Constants.{most-names}
 use Rattle.rules.specs.Label.{Label, several}
-use Rattle.rules.specs.Number.{labelOf}
+use Rattle.rules.specs.Number.{number, labelOf, labels}
 use Rattle.rules.specs.Model.{Kept}
 use Rattle.rules.specs.laws.Closure.{Closed}
 use Rattle.grid.specs.Rows.{Has}
@@ -17,15 +17,15 @@ cell g a b = getD (getD g a []) b 0
 
 -- the label is in a mask, by its number
 abbrev pub In : ℕ → Label → Type 0
-In m l = (n : ℕ) × (n < 11) × (l ≡ labelOf n) × Has m n
+In m l = (n : ℕ) × (n < labels) × (l ≡ labelOf n) × Has m n
 
 -- the grid has the pair (a, b) labelled l
 abbrev pub Pair : List (List ℕ) → ℕ → ℕ → Label → Type 0
 Pair g a b l = In (cell g a b) l
 
--- each mask has labels 0 to 10 alone
+-- each mask has numbers of labels alone
 abbrev pub Small : List (List ℕ) → Type 0
-Small g = (a b : ℕ) → cell g a b < 2048
+Small g = (a b : ℕ) → cell g a b < 2 ^ labels
 
 -- the grid has sixteen rows of sixteen masks
 pub record Square (g : List (List ℕ)) : Type 0 where
@@ -42,7 +42,7 @@ AllKept g = (a b : ℕ) (l : Label) → Pair g a b l → Kept a b l
 
 -- label number k is in the mask m, and a pair (a, b) with it is kept
 abbrev pub KeptIn : ℕ → ℕ → ℕ → ℕ → Type 0
-KeptIn a b m k = Has m k × ((a ≢ b) ⊎ (k ≡ 10))
+KeptIn a b m k = Has m k × ((a ≢ b) ⊎ (k ≡ number several))
 
 -- r has no pair
 pub record Empty (r : List (List ℕ)) : Type 0 where

@@ -1,5 +1,7 @@
 // Closing a grid: the walks of each named label, and the mixes with walks before and after them.
 ghost use Prim.Native.Nat.{_<_};
+ghost use Rattle.rules.specs.Label.{unknown};
+ghost use Rattle.rules.specs.Number.{number, labels};
 ghost use Rattle.grid.specs.Rows.{Edge, SomeRow, Bits, Same};
 ghost use Rattle.grid.specs.Grid.{Proper};
 ghost use Rattle.grid.specs.Planes.{Labelled, RowLabels, PlanesOf, PlaneIn, Within, SeveralOf};
@@ -10,6 +12,7 @@ use crate::planes::Planes;
 use crate::rows;
 use crate::rows::Rows;
 use rules::SEVERAL;
+use rules::UNKNOWN;
 use table::limits::MOST_NAMES;
 
 // The mixes, with walks of any labels before and after them; c has the planes that are not empty.
@@ -29,7 +32,7 @@ pub fn several(p: &Planes, c: u16) -> Rows
 
 // Adds the pairs that q relates to the grid, with label l.
 pub fn put_plane(g: &mut Grid, q: Rows, l: usize)
-    requires { ⌜ (l < 11) × Proper (now g) ⌝ }
+    requires { ⌜ (l < labels) × Proper (now g) ⌝ }
     ensures grown { λ _. ⌜ Grown (now (g .entry)) (InPlane q l) (now (g .exit)) ⌝ }
     ensures proper { λ _. ⌜ Proper (now (g .exit)) ⌝ }
 {
@@ -48,7 +51,7 @@ pub fn put_plane(g: &mut Grid, q: Rows, l: usize)
 
 // Adds the walks of r, pairs of the grid with label l, to the grid with that label.
 pub fn put_walks(g: &mut Grid, r: Rows, l: usize)
-    requires { ⌜ (l < 11) × Proper (now g) × PlaneIn (now g) r l ⌝ }
+    requires { ⌜ (l < labels) × Proper (now g) × PlaneIn (now g) r l ⌝ }
     ensures grown { λ _. ⌜ Grown (now (g .entry)) (InWalks (Edge r) l) (now (g .exit)) ⌝ }
     ensures proper { λ _. ⌜ Proper (now (g .exit)) ⌝ }
 {
@@ -61,10 +64,10 @@ pub fn put_walks(g: &mut Grid, r: Rows, l: usize)
 // Adds the walks of own and of each fork to the grid; p has its pairs, and c the planes that are not empty.
 pub fn put_named(g: &mut Grid, p: &Planes, c: u16)
     requires { ⌜ Proper (now g) × PlanesOf (now g) (now p) × Within (now p) c ⌝ }
-    ensures grown { λ _. ⌜ Grown (now (g .entry)) (InPlanes 9 (now (p .entry))) (now (g .exit)) ⌝ }
+    ensures grown { λ _. ⌜ Grown (now (g .entry)) (InPlanes (number unknown) (now (p .entry))) (now (g .exit)) ⌝ }
     ensures proper { λ _. ⌜ Proper (now (g .exit)) ⌝ }
 {
-    for l in 0..9usize {
+    for l in 0..UNKNOWN {
         if (c >> (l as u16)) % 2 == 1 {
             let r = p[l];
             put_walks(g, r, l);
@@ -74,7 +77,7 @@ pub fn put_named(g: &mut Grid, p: &Planes, c: u16)
 
 // Closes a grid whose pairs all have label l; u has the labels of the pairs from each name.
 pub fn close_one(g: &mut Grid, u: Rows, l: usize)
-    requires { ⌜ (l < 9) × Proper (now g) × Same (Edge u) (RowLabels (now g)) ⌝ }
+    requires { ⌜ (l < number unknown) × Proper (now g) × Same (Edge u) (RowLabels (now g)) ⌝ }
     ensures grown { λ _. ⌜ Grown (now (g .entry)) (InWalks (Labelled (now (g .entry)) l) l) (now (g .exit)) ⌝ }
     ensures proper { λ _. ⌜ Proper (now (g .exit)) ⌝ }
 {
@@ -100,13 +103,13 @@ pub fn close_in(g: &mut Grid)
     ensures grown { λ _. ⌜ Grown (now (g .entry)) (Follows (now (g .entry))) (now (g .exit)) ⌝ }
     ensures proper { λ _. ⌜ Proper (now (g .exit)) ⌝ }
 {
-    let u = planes::labels(g);
+    let u = planes::row_labels(g);
     let c = rows::any(u);
     if c == 0 {
         return;
     }
     let l = planes::sole(c);
-    if l < 9 {
+    if l < UNKNOWN {
         close_one(g, u, l);
         return;
     }

@@ -1,6 +1,7 @@
 // Grids of labelled pairs: recording, closing, and the lowest ring name.
-ghost use Prim.Native.Nat.{_<_};
+ghost use Prim.Native.Nat.{_^_, _<_};
 ghost use Rattle.table.specs.Constants.{most-names};
+ghost use Rattle.rules.specs.Number.{labels};
 ghost use Rattle.grid.specs.Rows.{Bits};
 ghost use Rattle.grid.specs.Grid.{In, Small, AllKept, KeptIn, Empty, Added, Closure, LowestRing, Square};
 
@@ -8,6 +9,7 @@ mod closing;
 mod planes;
 mod rows;
 
+use rules::SEVERAL_BIT;
 use table::limits::MOST_NAMES;
 
 // Row a, column b: the labels of the pair (a, b), as a mask of label numbers.
@@ -25,12 +27,16 @@ pub fn empty() -> Grid
 fn kept(a: usize, b: usize, m: u16) -> u16
     ensures { λ r. ⌜ Bits r (KeptIn a b m) ⌝ }
 {
-    if a == b { ((m >> 10) % 2) << 10 } else { m }
+    if a == b {
+        ((m >> SEVERAL_BIT) % 2) << SEVERAL_BIT
+    } else {
+        m
+    }
 }
 
 // Adds the pair (a, b) to the grid in place, for each label of m with which it is kept.
 pub fn put_labels(g: &mut Grid, a: usize, b: usize, m: u16)
-    requires { ⌜ (a < most-names) × (b < most-names) × (m < 2048) × Small (now g) × Square (now g) ⌝ }
+    requires { ⌜ (a < most-names) × (b < most-names) × (m < 2 ^ labels) × Small (now g) × Square (now g) ⌝ }
     ensures added { λ _. ⌜ Added (now (g .entry)) a b (In m) (now (g .exit)) ⌝ }
     ensures square { λ _. ⌜ Square (now (g .exit)) ⌝ }
 {
@@ -55,7 +61,7 @@ pub fn ring_name(g: Grid) -> usize
 {
     for x in 0..MOST_NAMES {
         let m = g[x][x];
-        if (m >> 10) % 2 == 1 {
+        if (m >> SEVERAL_BIT) % 2 == 1 {
             return x;
         }
     }

@@ -1,6 +1,6 @@
 // A grid as one relation a label, from the second name of a pair to the first: the planes, and their mixes.
-ghost use mathlib.Core.Path.{_≡_};
 ghost use Prim.Native.Nat.{_<_};
+ghost use Rattle.rules.specs.Number.{labels};
 ghost use Rattle.grid.specs.Rows.{Has, Edge, SomeRow, Same, Bits};
 ghost use Rattle.grid.specs.Grid.{Square};
 ghost use Rattle.grid.specs.Planes.{Labelled, RowLabels, Sole, PlanesOf, Within, Chosen, Clashing, MixOf};
@@ -9,13 +9,14 @@ use crate::rows;
 use crate::rows::Rows;
 use rules::LABELS;
 use rules::SEVERAL;
+use rules::UNKNOWN;
 use table::limits::MOST_NAMES;
 
 // Plane l: the pairs with label l, each from its second name to its first.
 pub type Planes = [[u16; MOST_NAMES]; LABELS];
 
 // The labels of the pairs from each name.
-pub fn labels(g: &Grid) -> Rows
+pub fn row_labels(g: &Grid) -> Rows
     requires { ⌜ Square (now g) ⌝ }
     ensures { λ t. ⌜ Same (Edge t) (RowLabels (now (g .entry))) ⌝ }
 {
@@ -30,23 +31,23 @@ pub fn labels(g: &Grid) -> Rows
     next
 }
 
-// The one label of a mask, if it is own or a fork; else 9.
+// The one label of a mask, if it is own or a fork; else UNKNOWN.
 pub fn sole(c: u16) -> usize
     ensures { λ l. ⌜ Sole c l ⌝ }
 {
     let n = u16::trailing_zeros(c);
     let l = n as usize;
-    if l < 9 {
+    if l < UNKNOWN {
         if c == 1u16 << (l as u16) {
             return l;
         }
     }
-    9
+    UNKNOWN
 }
 
 // The pairs that label l has; u has the labels of the pairs from each name.
 pub fn plane(g: &Grid, u: Rows, l: usize) -> Rows
-    requires { ⌜ (l < 11) × Same (Edge u) (RowLabels (now g)) ⌝ }
+    requires { ⌜ (l < labels) × Same (Edge u) (RowLabels (now g)) ⌝ }
     ensures { λ t. ⌜ Same (Edge t) (Labelled (now (g .entry)) l) ⌝ }
 {
     let mut next = [0u16; MOST_NAMES];
@@ -91,30 +92,15 @@ pub fn chosen(p: &Planes, c: u16) -> Rows
     next
 }
 
-// The mask of label m if m and then l combine to several, else 0.
-pub fn clash(l: usize, m: usize) -> u16
-    requires { ⌜ (l < 11) × (m < 11) ⌝ }
-    ensures { λ t. ⌜ Bits t (λ k. (k ≡ m) × Clashing l k) ⌝ }
-{
-    if rules::combine(m, l) == 10 {
-        1u16 << (m as u16)
-    } else {
-        0
-    }
-}
-
-// The labels of c that combine to several with l after them.
+// The labels of c that combine to several with l after them: all, but for l itself where that combines to l.
 pub fn clashing(l: usize, c: u16) -> u16
-    requires { ⌜ l < 11 ⌝ }
+    requires { ⌜ l < labels ⌝ }
     ensures { λ t. ⌜ Bits t (λ m. Has c m × Clashing l m) ⌝ }
 {
-    let mut t: u16 = 0;
-    for m in 0..LABELS {
-        if (c >> (m as u16)) % 2 == 1 {
-            t = t | clash(l, m);
-        }
+    if rules::combine(l, l) == SEVERAL as u8 {
+        return c;
     }
-    t
+    c ^ (((c >> (l as u16)) % 2) << (l as u16))
 }
 
 // The pairs labelled several, and those that follow from two with that label; c has the planes that are not empty.

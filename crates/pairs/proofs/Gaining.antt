@@ -12,14 +12,14 @@ use lib.Bits.{bitOr, or-lt}
 use lib.ListN.{length, getD, getElem?, drop, length-drop}
 use lib.Seq.{length-take-le, getD-take, getD-drop}
 use borrow.Author.Tests.{le-ltb}
+use Rattle.table.specs.Constants.{most-forks}
 use Rattle.rules.specs.Label.{Label, own, unknown, several, placed}
-use Rattle.rules.specs.Number.{labelOf}
-use Rattle.rules.specs.laws.Number.{number-of-label}
+use Rattle.rules.specs.Number.{number, labelOf, labels}
 use Rattle.rules.specs.Model.{Kept, renamed}
 use Rattle.grid.specs.Rows.{Has, Bits}
 use Rattle.grid.specs.Grid.{In, Small, Added}
 use Rattle.grid.specs.laws.Masks.{has-zero, below-bits, bits-or, bits-one, bits-shl}
-use Rattle.grid.specs.laws.Labels.{in-one, one-in}
+use Rattle.grid.specs.laws.Labels.{not-several, in-one, one-in}
 use Rattle.pairs.specs.Walks.{heldBy, inNest, holderUnder}
 use Rattle.pairs.specs.Gains.{HoldersGive, CallGives, Gains, namesAt, Low, MaskGives, Placed}
 use Rattle.rows.specs.Model.{Labelled, RowBits}
@@ -98,10 +98,10 @@ cell-gains a b m ha hb p =
     (gains-added p)
 
 -- the mask of the thread that a LOCK is in, as the code works it out
-pub lock-mask : (t : ℕ) → t ≤ 8 → 1 * 2 ^ t % 65536 < 2048
-lock-mask t l = below-bits 11 _ (omega arith) (λ j h. let e = bits-one t (omega arith) .to j h in omega arith)
+pub lock-mask : (t : ℕ) → t ≤ most-forks → 1 * 2 ^ t % 65536 < 2 ^ labels
+lock-mask t l = below-bits labels _ (omega arith) (λ j h. let e = bits-one t (omega arith) .to j h in omega arith)
 
-pub mask-gains : {g r : List (List ℕ)} (p q : Option ℕ) (t : ℕ) → t ≤ 8
+pub mask-gains : {g r : List (List ℕ)} (p q : Option ℕ) (t : ℕ) → t ≤ most-forks
     → Gains g (MaskGives p q (1 * 2 ^ t % 65536)) r → Gains g (HoldersGive p q (labelOf t)) r
 mask-gains p q t n =
     let o = bits-one t (omega arith) in
@@ -109,12 +109,8 @@ mask-gains p q t n =
     (λ a b l w. (w .0, w .1, in-one _ t l o (w .2)))
     (λ a b l w. (w .0, w .1, one-in _ t l (omega arith) o (w .2)))
 
--- the thread of a place is one thread
-one-thread : (t : ℕ) → t ≤ 8 → labelOf t ≡ several → ⊥
-one-thread t l e = let n = number-of-label t (omega arith) in let m : 10 ≡ t = rw e at n in omega arith
-
 -- from the holder outside LOCK x to the one inside: a pair with equal ends is not kept
-pub lock-gains : {g r : List (List ℕ)} (h x t m : ℕ) → x < 16 → t ≤ 8
+pub lock-gains : {g r : List (List ℕ)} (h x t m : ℕ) → x < 16 → t ≤ most-forks
     → Gains g (HoldersGive (heldBy h) (heldBy (holderUnder m h x)) (labelOf t)) r
     → Gains g (LockGives (Has m) x (labelOf t) (heldBy h)) r
 lock-gains {g} {r} h x t m k n = go (inNest m x) refl
@@ -125,7 +121,7 @@ lock-gains {g} {r} h x t m k n = go (inNest m x) refl
         gains-same
         (λ a b l w. ⊎-elim
         (λ ne. absurd (ne (let same : some a ≡ some b = sym (w .0) ∙ w .1 in cc)))
-        (λ s. absurd (one-thread t n (sym (w .2) ∙ s))))
+        (λ s. absurd (not-several t (omega arith) (sym (w .2) ∙ s))))
         (λ a b l w kept. absurd (w .0 (in-nest m x e)))
     go false e =
         gains-map
@@ -174,19 +170,20 @@ pub renamed-first : (n : ℕ) (xs : List ℕ) (i : ℕ) → i ≡ 0 → heldBy n
 renamed-first n xs i e = rw e
 
 -- the mask of a cell's labels in a thread, as the code works it out
-pub placed-mask : (v t : ℕ) → t ≤ 8
+pub placed-mask : (v t : ℕ) → t ≤ most-forks
     → Placed v t
-    (bitOr (bitOr (v % 2 * 2 ^ t % 65536) (v / 2 ^ 1 % 2 * 2 ^ 9 % 65536)) (v / 2 ^ 2 % 2 * 2 ^ 10 % 65536))
+    (bitOr (bitOr (v % 2 * 2 ^ t % 65536) (v / 2 ^ 1 % 2 * 2 ^ number unknown % 65536))
+    (v / 2 ^ 2 % 2 * 2 ^ number several % 65536))
 placed-mask v t l = record { small = low; only = only; all = all }
   where
     x : ℕ
     x = v % 2 * 2 ^ t % 65536
 
     y : ℕ
-    y = v / 2 ^ 1 % 2 * 2 ^ 9 % 65536
+    y = v / 2 ^ 1 % 2 * 2 ^ number unknown % 65536
 
     z : ℕ
-    z = v / 2 ^ 2 % 2 * 2 ^ 10 % 65536
+    z = v / 2 ^ 2 % 2 * 2 ^ number several % 65536
 
     mask : ℕ
     mask = bitOr (bitOr x y) z
@@ -196,12 +193,14 @@ placed-mask v t l = record { small = low; only = only; all = all }
         let e : v / 2 ^ 0 ≡ v = div-one v in
         subst (λ (u : ℕ). Bits (u % 2 * 2 ^ t % 65536) (λ j. Has v 0 × (j ≡ t))) e (bits-shl v 0 t (omega arith))
 
-    bits : Bits mask (λ j. ((Has v 0 × (j ≡ t)) ⊎ (Has v 1 × (j ≡ 9))) ⊎ (Has v 2 × (j ≡ 10)))
-    bits = bits-or (bits-or zeroth (bits-shl v 1 9 (omega arith))) (bits-shl v 2 10 (omega arith))
+    bits : Bits mask (λ j. ((Has v 0 × (j ≡ t)) ⊎ (Has v 1 × (j ≡ number unknown))) ⊎ (Has v 2 × (j ≡ number several)))
+    bits =
+        bits-or (bits-or zeroth (bits-shl v 1 (number unknown) (omega arith)))
+        (bits-shl v 2 (number several) (omega arith))
 
-    low : mask < 2048
+    low : mask < 2 ^ labels
     low =
-        below-bits 11 mask
+        below-bits labels mask
         (or-lt 16 (bitOr x y) z (or-lt 16 x y (omega arith) (omega arith)) (omega arith))
         (λ j h.
         ⊎-elim
@@ -220,8 +219,8 @@ placed-mask v t l = record { small = low; only = only; all = all }
 
     all : (k : Label) → Labelled v k → In mask (placed (labelOf t) k)
     all own h = (t, omega arith, refl, bits .from t (inl (inl (h, refl))))
-    all unknown h = (9, omega arith, refl, bits .from 9 (inl (inr (h, refl))))
-    all several h = (10, omega arith, refl, bits .from 10 (inr (h, refl)))
+    all unknown h = (number unknown, omega arith, refl, bits .from (number unknown) (inl (inr (h, refl))))
+    all several h = (number several, omega arith, refl, bits .from (number several) (inr (h, refl)))
 
 no-label : (v : ℕ) (m : Label) → v ≡ 0 → Labelled v m → ⊥
 no-label v own e h = has-zero 0 (rw e at h)

@@ -3,11 +3,11 @@ use mathlib.Core.Path.{_≡_}
 use mathlib.Core.Logic.{_⊎_}
 use mathlib.Core.List.{List}
 use mathlib.Core.Option.{Option, some}
-use Prim.Native.Nat.{ℕ, _+_, _*_, _≤_, _<_}
+use Prim.Native.Nat.{ℕ, _+_, _*_, _^_, _≤_, _<_}
 use lib.ListN.{length, getD, take, drop}
 use Rattle.table.specs.Constants.{most-params, most-forks, most-names, row-names, row-bytes}
 use Rattle.rules.specs.Label.{Label, placed}
-use Rattle.rules.specs.Number.{labelOf}
+use Rattle.rules.specs.Number.{labelOf, labels}
 use Rattle.rules.specs.Model.{Kept, renamed}
 use Rattle.rules.specs.laws.Satisfies.{Pairs}
 use Rattle.rows.specs.Model.{Labelled}
@@ -45,7 +45,7 @@ MaskGives p q m a b l = (p ≡ some a) × (q ≡ some b) × In m l
 
 -- the mask m has the labels of a cell, placed in the thread with the number t
 pub record Placed (cell t m : ℕ) : Type 0 where
-  pub small : m < 2048
+  pub small : m < 2 ^ labels
   pub only : (l : Label) → In m l → (k : Label) × Labelled cell k × (l ≡ placed (labelOf t) k)
   pub all : (k : Label) → Labelled cell k → In m (placed (labelOf t) k)
 

@@ -1,9 +1,9 @@
 // The pairs that one LOCK or CALL records.
 ghost use mathlib.Core.Path.{_≡_};
-ghost use Prim.Native.Nat.{_+_, _*_, _≤_, _<_};
+ghost use Prim.Native.Nat.{_+_, _*_, _^_, _≤_, _<_};
 ghost use lib.ListN.{length, getD};
 ghost use Rattle.table.specs.Constants.{most-forks, row-names, row-cells};
-ghost use Rattle.rules.specs.Number.{labelOf};
+ghost use Rattle.rules.specs.Number.{labelOf, labels};
 ghost use Rattle.rules.specs.Model as model;
 ghost use Rattle.grid.specs.Grid.{Small, Square};
 ghost use Rattle.pairs.specs.Walks.{heldBy};
@@ -13,6 +13,8 @@ ghost use Rattle.pairs.specs.Gains.{CallReady, RowReady, LineGives, RowG
 use crate::walk::NOTHING;
 use grid::Grid;
 use grid::put_labels;
+use rules::SEVERAL_BIT;
+use rules::UNKNOWN_BIT;
 use table::limits::ROW_BYTES;
 use table::limits::ROW_NAMES;
 use table::scope::size;
@@ -24,8 +26,8 @@ fn placed(cell: u8, thread: u8) -> u16
 {
     let m = cell as u16;
     let own = (m % 2) << (thread as u16);
-    let unknown = ((m >> 1) % 2) << 9;
-    let several = ((m >> 2) % 2) << 10;
+    let unknown = ((m >> 1) % 2) << UNKNOWN_BIT;
+    let several = ((m >> 2) % 2) << SEVERAL_BIT;
     own | unknown | several
 }
 
@@ -45,7 +47,7 @@ fn renamed(s: &[u8], at: usize, k: usize, holder: u8, i: usize) -> u8
 
 // Adds the pair (a, b) to the grid in place, for each label of m with which it is kept, unless an end is nothing.
 fn put_cell(g: &mut Grid, a: u8, b: u8, m: u16)
-    requires { ⌜ (m < 2048) × Small (now g) × Square (now g) ⌝ }
+    requires { ⌜ (m < 2 ^ labels) × Small (now g) × Square (now g) ⌝ }
     ensures gains { λ _. ⌜ Gains (now (g .entry)) (MaskGives (heldBy a) (heldBy b) m) (now (g .exit)) ⌝ }
     ensures square { λ _. ⌜ Square (now (g .exit)) ⌝ }
 {

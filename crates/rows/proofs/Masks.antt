@@ -1,17 +1,16 @@
 -- The bits of masks: those of `|`, those below a bound, and the byte of a cell.
 use mathlib.Core.Path.{_≡_, refl, sym, ap, _∙_}
 use mathlib.Core.Logic.{_⊎_, inl, inr, ⊎-elim}
-use mathlib.Core.Bool.{Bool, true, false, cond}
 use Prim.Native.Nat.{ℕ, zero, suc, _+_, _*_, _/_, _%_, _^_, _<_, _≤_}
 use native.Mathlib.Omega.{arith}
 use native.Mathlib.Decide.{ℕ-discrete}
 use native.Mathlib.Nat.{div-lt-iff-lt-mul, one-mul, zero-mul, eq-or-lt-of-le}
-use lib.Dec.{eqb, leb}
 use lib.Bits.{bitOr}
 use lib.Pow.{pow-pos, shr-shr, shr-le, mod-pow-add}
-use borrow.Author.Tests.{eqb-true, eqb-false, leb-true, leb-false}
+use Rattle.table.specs.Constants.{most-forks}
 use Rattle.rules.specs.Label.{Label, own, forked, unknown, several, cut}
-use Rattle.rules.specs.Number.{labelOf}
+use Rattle.rules.specs.Number.{number, labelOf, labels}
+use Rattle.rules.specs.laws.Number.{LabelCase, is-own, is-fork, is-unknown, is-several, label-case}
 use Rattle.grid.specs.laws.Masks.{or-bit, has-below}
 use Rattle.grid.specs.Rows.{Has, Bits}
 use Rattle.rows.specs.Model.{Labelled}
@@ -74,65 +73,56 @@ below-bits n m l h = ⊎-elim over under (low-bit 8 (m / 2 ^ n))
 pub no-bits : (m : ℕ) → m < 256 → ((k : ℕ) → Has m k → ⊥) → m ≡ 0
 no-bits m l h = let z : m < 2 ^ 0 = below-bits 0 m l (λ k p. absurd (h k p)) in omega arith
 
--- which label numbers have which bit
-bit-case : (n : ℕ)
-    → ((n ≡ 0) × (bitOf (labelOf n) ≡ 0)) ⊎ (((1 ≤ n) × (n ≤ 9) × (bitOf (labelOf n) ≡ 1))
-    ⊎ ((10 ≤ n) × (bitOf (labelOf n) ≡ 2)))
-bit-case n = go (eqb n 0) (leb n 8) (eqb n 9) refl refl refl
+-- the forks and unknown have one bit in a row
+middle-bit : (n : ℕ) → 1 ≤ n → n ≤ number unknown → bitOf (labelOf n) ≡ 1
+middle-bit n h k = go (label-case most-forks n)
   where
-    go : (b c d : Bool) → eqb n 0 ≡ b → leb n 8 ≡ c → eqb n 9 ≡ d
-        → ((n ≡ 0) × (bitOf (cond b own (cond c (forked n) (cond d unknown several))) ≡ 0))
-        ⊎ (((1 ≤ n) × (n ≤ 9) × (bitOf (cond b own (cond c (forked n) (cond d unknown several))) ≡ 1))
-        ⊎ ((10 ≤ n) × (bitOf (cond b own (cond c (forked n) (cond d unknown several))) ≡ 2)))
-    go true c d e f g = inl (eqb-true n 0 e, refl)
-    go false true d e f g =
-        inr (inl (let z = eqb-false n 0 e in omega arith, let y = leb-true n 8 f in omega arith, refl))
-    go false false true e f g =
-        inr (inl (let y = eqb-true n 9 g in omega arith, let y = eqb-true n 9 g in omega arith, refl))
-    go false false false e f g =
-        inr (inr (let y = leb-false n 8 f in let z = eqb-false n 9 g in omega arith, refl))
+    go : LabelCase most-forks n (labelOf n) → bitOf (labelOf n) ≡ 1
+    go (is-own e l) = absurd (omega arith)
+    go (is-fork lo hi l) = rw l
+    go (is-unknown e l) = rw l
+    go (is-several lo l) = absurd (omega arith)
 
--- the byte of a cell, where u is 1 if one of the labels 1 to 9 is in the mask, else 0
-module _ (m v u : ℕ) (sum : v ≡ m % 2 + 4 * (m / 1024 % 2) + 2 * u) (low : u < 2) where
-  module _ (some : u ≡ 1 → m / 2 % 512 ≡ 0 → ⊥) (none : u ≡ 0 → m / 2 % 512 ≡ 0) where
+-- the byte of a cell, where u is 1 if a fork or unknown is in the mask, else 0
+module _ (m v u : ℕ) (sum : v ≡ m % 2 + 4 * (m / 2 ^ number several % 2) + 2 * u) (low : u < 2) where
+  module _ (some : u ≡ 1 → m / 2 % 2 ^ number unknown ≡ 0 → ⊥) (none : u ≡ 0 → m / 2 % 2 ^ number unknown ≡ 0) where
     from-bit : (j : ℕ) → Has v j → CellBit m j
     from-bit zero h = (own, (0, omega arith, refl, omega arith), refl)
-    from-bit (suc zero) h = ⊎-elim named (λ e. absurd (some (omega arith) e)) (low-bit 9 (m / 2))
-      where
-        named : (k : ℕ) × (k < 9) × Has (m / 2) k → CellBit m 1
-        named w =
-            (labelOf (suc (w .0)), (suc (w .0), omega arith, refl, sym (half-bit m (w .0)) ∙ w .2), bit)
-          where
-            bit : 1 ≡ bitOf (labelOf (suc (w .0)))
-            bit =
-                ⊎-elim (λ p. absurd (omega arith)) (λ p. ⊎-elim (λ q. sym (q .2)) (λ q. absurd (omega arith)) p)
-                (bit-case (suc (w .0)))
-    from-bit (suc (suc zero)) h = (several, (10, omega arith, refl, omega arith), refl)
+    from-bit (suc zero) h =
+        ⊎-elim
+        (λ w. (
+          labelOf (suc (w .0)),
+          (suc (w .0), let l = w .1 in omega arith, refl, sym (half-bit m (w .0)) ∙ w .2),
+          sym (middle-bit (suc (w .0)) (omega arith) (w .1)),
+        ))
+        (λ e. absurd (some (omega arith) e))
+        (low-bit (number unknown) (m / 2))
+    from-bit (suc (suc zero)) h = (several, (number several, omega arith, refl, omega arith), refl)
     from-bit (suc (suc (suc j))) h = let z = has-below v 3 (suc (suc (suc j))) (omega arith) h in absurd (omega arith)
 
-    named-bit : (n : ℕ) → 1 ≤ n → n ≤ 9 → Has m n → u ≡ 1
+    named-bit : (n : ℕ) → 1 ≤ n → n ≤ number unknown → Has m n → u ≡ 1
     named-bit zero l k h = absurd (omega arith)
     named-bit (suc n) l k h =
         elim (ℕ-discrete u 0) [
           | yes e ↦
-              absurd (no-low-bit 9 (m / 2) n (none e) (omega arith) (half-bit m n ∙ h))
+              absurd (no-low-bit (number unknown) (m / 2) n (none e) (omega arith) (half-bit m n ∙ h))
           | no e ↦ omega arith
         ]
 
-    to-bit : (j n : ℕ) → n < 11 → Has m n → j ≡ bitOf (labelOf n) → Has v j
-    to-bit j n l h e = ⊎-elim first (λ p. ⊎-elim second third p) (bit-case n)
+    to-bit : (j n : ℕ) → n < labels → Has m n → j ≡ bitOf (labelOf n) → Has v j
+    to-bit j n l h e = go (label-case most-forks n)
       where
-        first : (n ≡ 0) × (bitOf (labelOf n) ≡ 0) → Has v j
-        first p = let q : Has m 0 = rw (p .0) at h in rw (e, p .1) (omega arith)
+        middle : 1 ≤ n → n ≤ number unknown → Has v j
+        middle lo hi = let q = named-bit n lo hi h in rw (e, middle-bit n lo hi) (omega arith)
 
-        second : (1 ≤ n) × (n ≤ 9) × (bitOf (labelOf n) ≡ 1) → Has v j
-        second p = let q = named-bit n (p .0) (p .1) h in rw (e, p .2) (omega arith)
-
-        third : (10 ≤ n) × (bitOf (labelOf n) ≡ 2) → Has v j
-        third p =
-            let i : n ≡ 10 = omega arith in
-            let q : Has m 10 = rw i at h in
-            rw (e, p .1) (omega arith)
+        go : LabelCase most-forks n (labelOf n) → Has v j
+        go (is-own z k) = let q : Has m 0 = rw z at h in rw (e, k) (omega arith)
+        go (is-fork lo hi k) = middle lo (omega arith)
+        go (is-unknown z k) = middle (omega arith) (omega arith)
+        go (is-several lo k) =
+            let i : n ≡ number several = omega arith in
+            let q : Has m (number several) = rw i at h in
+            rw (e, k) (omega arith)
 
     pub cell-bits : Bits v (CellBit m)
     cell-bits = record {

@@ -6,6 +6,8 @@ ghost use Rattle.grid.specs.Rows.{Bits};
 ghost use Rattle.rows.specs.Model.{ShapedRow, RowAdded, Cleared};
 ghost use Rattle.rows.specs.Added.{CellBit, AtByte, AtCell, AtRing, InRow, InGrid, Added};
 use grid::Grid;
+use rules::SEVERAL_BIT;
+use rules::UNKNOWN_BIT;
 use table::limits::MOST_NAMES;
 use table::limits::ROW_BYTES;
 use table::limits::ROW_CELLS;
@@ -15,8 +17,8 @@ use table::limits::ROW_NAMES;
 fn cell_byte(m: u16) -> u8
     ensures { λ r. ⌜ Bits r (CellBit m) ⌝ }
 {
-    let ends = m % 2 + 4 * ((m >> 10) % 2);
-    if (m >> 1) % 512 == 0 {
+    let ends = m % 2 + 4 * ((m >> SEVERAL_BIT) % 2);
+    if (m >> 1) % (1 << UNKNOWN_BIT) == 0 {
         ends as u8
     } else {
         (ends + 2) as u8

@@ -2,6 +2,7 @@
 pub mod Satisfies
 pub mod Least
 pub mod Closure
+pub mod Combine
 pub mod Verdict
 pub mod Tests
 pub mod Lists
@@ -10,5 +11,6 @@ pub mod Nest
 pub mod Before101
 pub mod Table
 pub mod Number
+pub mod Before103
 pub mod Certificate
 pub mod Judge

@@ -2,8 +2,9 @@
 -- compete, where the earlier one must win.
 use mathlib.Core.Path.{_≡_, refl}
 use mathlib.Core.List.{List, [], _∷_, _++_, map}
-use Prim.Native.Nat.{ℕ, zero, suc, _-_, _/_}
+use Prim.Native.Nat.{ℕ, zero, suc, _+_, _-_, _/_}
 use lib.ListN.{length, replicate}
+use Rattle.table.specs.Constants.{most-forks}
 use Rattle.table.specs.Program.{Code, end, new, lock, fork, choice, call, Program, programItems}
 use Rattle.table.specs.Encoding.{twoBytes, encodeTable}
 use Rattle.table.specs.Check.{refused, accepted, checkTable, blockBy, block}
@@ -128,14 +129,14 @@ refusals = gets [] 1
     ∷ gets (one (4 ∷ 0 ∷ 0 ∷ 0 ∷ [])) 9
     ∷ gets (one (1 ∷ (repeated 17 (2 ∷ 1 ∷ []) ++ replicate 18 0))) 10
     ∷ gets (one (replicate 9 1 ++ (0 ∷ []))) 11
-    ∷ gets (one (repeated 9 (3 ∷ 0 ∷ []) ++ (0 ∷ []))) 11
+    ∷ gets (one (repeated (most-forks + 1) (3 ∷ 0 ∷ []) ++ (0 ∷ []))) 11
     ∷ gets (one (6 ∷ 1 ∷ 0 ∷ [])) 12
     ∷ gets (one (1 ∷ 2 ∷ 2 ∷ 0 ∷ 0 ∷ [])) 13
     ∷ gets (2 ∷ 0 ∷ 2 ∷ 5 ∷ 0 ∷ 1 ∷ 6 ∷ 1 ∷ 1 ∷ 0 ∷ []) 13
     ∷ gets (one (0 ∷ 0 ∷ [])) 14 ∷ []
 
 -- Two grounds compete: 2 and 3; 3 and 4; 4 and 5; 5 and 6; 9 and 7, by byte order; a seventeenth block with a bad name;
--- a ninth FORK that would be a seventeenth block; a missing routine byte; a missing name; a stray END in a second body.
+-- a seventeenth block that is a FORK too many; a missing routine byte; a missing name; a stray END in a second body.
 abbrev competing : List Case
 competing = gets (65 ∷ []) 2
     ∷ gets (2 ∷ 8 ∷ 9 ∷ 1 ∷ []) 3
@@ -143,7 +144,7 @@ competing = gets (65 ∷ []) 2
     ∷ gets (1 ∷ 0 ∷ 255 ∷ 255 ∷ []) 5
     ∷ gets (one (5 ∷ [])) 9
     ∷ gets (one (1 ∷ (repeated 16 (2 ∷ 1 ∷ []) ++ (2 ∷ 9 ∷ [])))) 10
-    ∷ gets (one (repeated 8 (3 ∷ 0 ∷ []) ++ (replicate 16 4 ++ (3 ∷ [])))) 10
+    ∷ gets (one (repeated most-forks (3 ∷ 0 ∷ []) ++ (replicate 16 4 ++ (3 ∷ [])))) 10
     ∷ gets (one (6 ∷ [])) 12
     ∷ gets (one (1 ∷ 2 ∷ [])) 13
     ∷ gets (2 ∷ 0 ∷ 0 ∷ 3 ∷ 0 ∷ 0 ∷ 0 ∷ 0 ∷ []) 14 ∷ []

@@ -1,6 +1,8 @@
--- `kept` meets its contract: with equal ends the mask has bit 10 of m alone.
+-- `kept` meets its contract: with equal ends the mask has several alone, if m has it.
 use mathlib.Core.Logic.{inl, inr, ⊎-elim}
 use native.Mathlib.Omega.{arith}
+use Rattle.rules.specs.Label.{several}
+use Rattle.rules.specs.Number.{number}
 use Rattle.grid.specs.laws.Masks.{bits-self, bits-map, bits-shl}
 use Rattle.grid.proofs.kept.Statement.{statement}
 use Rattle.grid.proofs.kept.Tie as tie
@@ -10,7 +12,7 @@ returns c =
     let a = c .before .args in
     bits-map (λ k p. (rw (p .1) (p .0), inr (p .1)))
     (λ k p. ⊎-elim (λ n. absurd (n (c .if1 .taken))) (λ e. (rw e at (p .0), e)) (p .1))
-    (bits-shl (a .m) 10 10 (omega arith))
+    (bits-shl (a .m) (number several) (number several) (omega arith))
 
 returns-2 : tie.Need-returns-2
 returns-2 c =

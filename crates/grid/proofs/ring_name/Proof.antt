@@ -4,6 +4,8 @@ use Prim.Native.Nat.{ℕ, _<_, _≤_, _-_}
 use native.Mathlib.Omega.{arith}
 use borrow.Author.Count.{below-more}
 use borrow.Author.Needs.{needs}
+use Rattle.rules.specs.Label.{several}
+use Rattle.rules.specs.Number.{number}
 use Rattle.grid.specs.Rows.{Has}
 use Rattle.grid.specs.Grid.{cell}
 use Rattle.grid.proofs.Recorded.{no-lower}
@@ -11,7 +13,7 @@ use Rattle.grid.proofs.ring_name.Statement.{statement}
 use Rattle.grid.proofs.ring_name.Tie as tie
 
 abbrev Inv-loop : tie.InvT-loop
-Inv-loop g x₀ x = (x ≤ 16) × ((y : ℕ) → y < x → Has (cell g y y) 10 → ⊥)
+Inv-loop g x₀ x = (x ≤ 16) × ((y : ℕ) → y < x → Has (cell g y y) (number several) → ⊥)
 
 abbrev μ-loop : tie.MeasureT-loop
 μ-loop g x₀ x = 16 - x
@@ -36,7 +38,7 @@ returns c =
     let l = c .before .before .before .loop in
     record {
       within = omega arith;
-      ring = λ h. (10, omega arith, refl, c .if1 .taken);
+      ring = λ h. (number several, omega arith, refl, c .if1 .taken);
       lowest = no-lower (c .before .before .before .before .args .t1) (l .x) (l .inv .1);
     }
 

@@ -1,6 +1,6 @@
 -- What follows from given pairs, in plain terms: own and forks go along walks, unknown is only given, several is a mix
 -- with walks before and after it.
-use mathlib.Core.Path.{_≡_, refl, sym, ap}
+use mathlib.Core.Path.{_≡_, refl, sym}
 use mathlib.Core.Logic.{_≢_, _⊎_, inl, inr, ⊎-elim}
 use Prim.Native.Nat.{ℕ}
 use native.Mathlib.Decide.{ℕ-discrete}
@@ -8,6 +8,7 @@ use native.Mathlib.Omega.{arith}
 use Rattle.rules.specs.Label.{Label, own, forked, unknown, several, combine}
 use Rattle.rules.specs.Model.{Kept}
 use Rattle.rules.specs.laws.Closure.{Closed, given, follows}
+use Rattle.rules.specs.laws.Combine.{with-several, other-fork, same-fork}
 use Rattle.grid.specs.Rows.{Rel, Walk, one, more, Star}
 
 -- the names joined by a given pair of the label, or of any label
@@ -68,20 +69,6 @@ star-map : {R S : Rel} → ((a b : ℕ) → R a b → S a b) → {a b : ℕ} →
 star-map f (inl e) = inl e
 star-map f (inr w) = inr (walk-map f w)
 
--- a fork combines with itself to itself, and each label with several to several
-combine-same : (i : ℕ) → combine (forked i) (forked i) ≡ forked i
-combine-same i =
-    elim (ℕ-discrete i i) as (λ d. (elim d as (λ c. Label) [ yes p ↦ forked i | no n ↦ several ]) ≡ forked i) [
-      | yes p ↦ refl
-      | no n ↦ absurd (n refl)
-    ]
-
-combine-several : (l : Label) → combine l several ≡ several
-combine-several own = refl
-combine-several (forked i) = refl
-combine-several unknown = refl
-combine-several several = refl
-
 module _ (G : ℕ → ℕ → Label → Type 0) where
   -- what a pair says holds of some walk
   path : (l : Label) {a b : ℕ} → Says G l a b → Star (Any G) a b
@@ -129,17 +116,18 @@ module _ (G : ℕ → ℕ → Label → Type 0) where
   says-follows own unknown a b c p q k = mixes own unknown a b c refl p q
   says-follows own several a b c p q k = mixes own several a b c refl p q
   says-follows (forked i) own a b c p q k = mixes (forked i) own a b c refl p q
-  says-follows (forked i) (forked j) a b c p q k = go (ℕ-discrete i j) refl k
+  says-follows (forked i) (forked j) a b c p q k = go (ℕ-discrete i j)
     where
-      go : (d : Dec (i ≡ j)) → ℕ-discrete i j ≡ d
-          → Kept a c (elim d as (λ x. Label) [ yes p ↦ forked i | no n ↦ several ])
-          → Says G (elim d as (λ x. Label) [ yes p ↦ forked i | no n ↦ several ]) a c
-      go (yes e) f (inl n) = (n, walk-then (p .1) (rw (← e) at (q .1)))
-      go (yes e) f (inr x) = let z : _≡_ {A = ℕ} 0 1 = cc in absurd (omega arith)
-      go (no n) f k =
-          mixes (forked i) (forked j) a b c
-          (ap (λ d. elim d as (λ x. Label) [ yes p ↦ forked i | no n ↦ several ]) f)
-          p q
+      same : i ≡ j → combine (forked i) (forked j) ≡ forked i
+      same e = rw (← e) (same-fork i)
+
+      joined : i ≡ j → Kept a c (forked i) → Says G (forked i) a c
+      joined e (inl n) = (n, walk-then (p .1) (rw (← e) at (q .1)))
+      joined e (inr x) = let z : _≡_ {A = ℕ} 0 1 = cc in absurd (omega arith)
+
+      go : Dec (i ≡ j) → Says G (combine (forked i) (forked j)) a c
+      go (yes e) = rw (same e) (joined e (rw (same e) at k))
+      go (no n) = rw (other-fork i j n) (mixes (forked i) (forked j) a b c (other-fork i j n) p q)
   says-follows (forked i) unknown a b c p q k = mixes (forked i) unknown a b c refl p q
   says-follows (forked i) several a b c p q k = mixes (forked i) several a b c refl p q
   says-follows unknown m a b c p q k = mixes unknown m a b c refl p q
@@ -175,8 +163,8 @@ module _ (G : ℕ → ℕ → Label → Type 0) where
   mixed (inr w) = follows (given (w .3)) (given (w .4)) (sym (w .5)) (inr refl)
 
   before : {a b c : ℕ} → Walk (Any G) a b → Closed G b c several → Closed G a c several
-  before (one w) p = follows (given (w .1)) p (sym (combine-several (w .0))) (inr refl)
-  before (more w v) p = follows (given (w .1)) (before v p) (sym (combine-several (w .0))) (inr refl)
+  before (one w) p = follows (given (w .1)) p (sym (with-several (w .0))) (inr refl)
+  before (more w v) p = follows (given (w .1)) (before v p) (sym (with-several (w .0))) (inr refl)
 
   after : {a b c : ℕ} → Closed G a b several → Walk (Any G) b c → Closed G a c several
   after p (one w) = follows p (given (w .1)) refl (inr refl)
@@ -193,6 +181,6 @@ module _ (G : ℕ → ℕ → Label → Type 0) where
   -- what a label says holds only of pairs that follow
   pub said : (l : Label) {a b : ℕ} → Says G l a b → Closed G a b l
   said own w = walked own refl (w .1) (w .0)
-  said (forked i) w = walked (forked i) (combine-same i) (w .1) (w .0)
+  said (forked i) w = walked (forked i) (same-fork i) (w .1) (w .0)
   said unknown w = given w
   said several w = star-after (star-before (w .2) (mixed (w .3))) (w .4)

@@ -1,4 +1,4 @@
--- `cell_byte` meets its contract: the labels 1 to 9 are those of nine bits, whose number is zero where there is none.
+-- `cell_byte` meets its contract: the forks and unknown are bits in a row, whose number is zero where there is none.
 use native.Mathlib.Omega.{arith}
 use borrow.Author.Needs.{needs}
 use Rattle.rows.proofs.Masks.{cell-bits}
@@ -10,6 +10,9 @@ mul-ends c = search needs
 
 add-ends : tie.Need-add-ends
 add-ends c = search needs
+
+rem-if1 : tie.Need-rem-if1
+rem-if1 c = search needs
 
 cast-result : tie.Need-cast-result
 cast-result c = search needs
@@ -30,4 +33,4 @@ returns-2 c =
 
 pub cell-byte-spec : {M : Type 1} → statement M
 cell-byte-spec =
-    tie.close (tie.spec mul-ends add-ends cast-result add-result cast-result-2 returns returns-2)
+    tie.close (tie.spec mul-ends add-ends rem-if1 cast-result add-result cast-result-2 returns returns-2)

@@ -18,6 +18,7 @@ use Rattle.table.specs.laws.Accepts.{Bytes, accepted-well-formed}
 use Rattle.rules.specs.Label.{Label, own, forked, unknown, several, combine, cut, placed}
 use Rattle.rules.specs.Model.{Kept, renamed, Place, atHead, nested, underLock, underFork, Model}
 use Rattle.rules.specs.Verdict.{Reached, Clear}
+use Rattle.rules.specs.laws.Combine.{with-several, same-fork}
 use Rattle.rules.specs.laws.Nest.{by-nest}
 use Rattle.rules.specs.laws.Satisfies.{Pairs, RecordedFrom, RowOf, Satisfies}
 use Rattle.rules.specs.laws.Least.{model-satisfies, model-least}
@@ -62,17 +63,6 @@ getElem-in : (xs : List ℕ) (i : ℕ) {x : ℕ} → getElem? xs i ≡ some x �
 getElem-in [] i {x} e = absurd (Option·none-ne-some x e)
 getElem-in (y ∷ xs) zero e = inl (cc)
 getElem-in (y ∷ xs) (suc i) e = inr (getElem-in xs i e)
-
-combine-several : (θ : Label) → combine θ several ≡ several
-combine-several own = refl
-combine-several (forked i) = refl
-combine-several unknown = refl
-combine-several several = refl
-
-combine-same : (i : ℕ) → combine (forked i) (forked i) ≡ forked i
-combine-same i =
-    elim (ℕ-discrete i i) as (λ d. elim d [ yes p ↦ forked i | no n ↦ several ] ≡ forked i)
-    [ yes p ↦ refl | no n ↦ absurd (n refl) ]
 
 -- the label is own or several: the two that pairs from name 0 have
 abbrev Running : Label → Type 0
@@ -139,7 +129,7 @@ module _ (P : Program) (M : Pairs) (ok : SatisfiesBefore P M) where
   onto r θ g a y l same w (inr q) f k = step (q .1) (q .3) (subst (λ (u : ℕ). M r u (q .1) θ) (cc (q .2)) (q .4))
     where
       kept : combine θ l ≡ l
-      kept = elim w [ inl e ↦ rw e same | inr e ↦ rw e (combine-several θ) ]
+      kept = elim w [ inl e ↦ rw e same | inr e ↦ rw e (with-several θ) ]
 
       step : (v : ℕ) → g ≡ some v → M r a v θ → M r a y l
       step v gv m = elim (ℕ-discrete v y) [
@@ -248,7 +238,7 @@ module _ (P : Program) (M : Pairs) (ok : SatisfiesBefore P M) where
     k = t .k;
     scoped = t .scoped .0;
     names = t .names;
-    same = combine-same i;
+    same = same-fork i;
     running = λ e. absurd (Option·none-ne-some 0 e);
     some-holder = λ x j. absurd j;
     leads = inl refl;

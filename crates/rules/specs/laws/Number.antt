@@ -1,19 +1,72 @@
--- Labels and their numbers, and the combining of labels by their numbers.
-use mathlib.Core.Path.{_≡_, refl, sym, ap, _∙_}
-use mathlib.Core.Bool.{cond, _&&_}
-use Prim.Native.Nat.{ℕ, _≤_, _<_}
+-- Labels and their numbers, and the rule of combining by numbers, for every number of forks.
+use mathlib.Core.Path.{_≡_, refl, sym}
+use mathlib.Core.Bool.{Bool, true, false, cond}
+use Prim.Native.Nat.{ℕ, _+_, _≤_, _<_}
 use native.Mathlib.Omega.{arith}
-use native.Mathlib.Decide.{ℕ-discrete}
-use lib.Dec.{eqb, leb, eqb→eq}
-use borrow.Author.Tests.{ne-eqb, le-leb}
+use lib.Dec.{eqb, leb}
+use borrow.Author.Tests.{eqb-true, eqb-false, leb-true, leb-false, ne-eqb, le-leb}
+use Rattle.table.specs.Constants.{most-forks}
 use Rattle.rules.specs.Label.{Label, own, forked, unknown, several, combine}
-use Rattle.rules.specs.Number.{number, labelOf}
-use Rattle.rules.specs.laws.Table.{at-below, at-both}
+use Rattle.rules.specs.laws.Combine.{other-fork, same-fork}
+use Rattle.rules.specs.Number.{numberFor, labelFor, number, labelOf, labels}
 
--- the labels of a routine: own, fork 1 to 8, unknown and several
+-- the label l of a number n, by cases
+pub data LabelCase (f n : ℕ) (l : Label) : Type 0 where
+  is-own : n ≡ 0 → l ≡ own → LabelCase f n l
+  is-fork : 1 ≤ n → n ≤ f → l ≡ forked n → LabelCase f n l
+  is-unknown : n ≡ f + 1 → l ≡ unknown → LabelCase f n l
+  is-several : f + 1 < n → l ≡ several → LabelCase f n l
+
+pub label-case : (f n : ℕ) → LabelCase f n (labelFor f n)
+label-case f n = go (eqb n 0) (leb n f) (eqb n (f + 1)) refl refl refl
+  where
+    go : (b c d : Bool) → eqb n 0 ≡ b → leb n f ≡ c → eqb n (f + 1) ≡ d
+        → LabelCase f n (cond b own (cond c (forked n) (cond d unknown several)))
+    go true c d p q r = is-own (eqb-true n 0 p) refl
+    go false true d p q r = is-fork (let z = eqb-false n 0 p in omega arith) (leb-true n f q) refl
+    go false false true p q r = is-unknown (eqb-true n (f + 1) r) refl
+    go false false false p q r =
+        is-several (let y = leb-false n f q in let z = eqb-false n (f + 1) r in omega arith) refl
+
+-- the rule of combining, by numbers: of two equal ones of own or of a fork it is that one, and several of all else
+module _ (f : ℕ) where
+  pub combine-same : (n : ℕ) → n ≤ f → combine (labelFor f n) (labelFor f n) ≡ labelFor f n
+  combine-same n h = go (label-case f n)
+    where
+      go : LabelCase f n (labelFor f n) → combine (labelFor f n) (labelFor f n) ≡ labelFor f n
+      go (is-own e l) = rw l
+      go (is-fork lo hi l) = rw l (same-fork n)
+      go (is-unknown e l) = absurd (omega arith)
+      go (is-several lo l) = absurd (omega arith)
+
+  pub combine-else : (a b : ℕ) → (a ≡ b → f < a) → combine (labelFor f a) (labelFor f b) ≡ several
+  combine-else a b h = go (label-case f a) (label-case f b)
+    where
+      go : LabelCase f a (labelFor f a) → LabelCase f b (labelFor f b) → combine (labelFor f a) (labelFor f b) ≡ several
+      go (is-own e l) (is-own g m) = let z = h (omega arith) in absurd (omega arith)
+      go (is-own e l) (is-fork lo hi m) = rw (l, m)
+      go (is-own e l) (is-unknown g m) = rw (l, m)
+      go (is-own e l) (is-several g m) = rw (l, m)
+      go (is-fork lo hi l) (is-own g m) = rw (l, m)
+      go (is-fork lo hi l) (is-fork lo′ hi′ m) = rw (l, m) (other-fork a b (λ e. let z = h e in omega arith))
+      go (is-fork lo hi l) (is-unknown g m) = rw (l, m)
+      go (is-fork lo hi l) (is-several g m) = rw (l, m)
+      go (is-unknown e l) c = rw l
+      go (is-several e l) c = rw l
+
+  pub number-of-label : (n : ℕ) → n ≤ f + 2 → numberFor f (labelFor f n) ≡ n
+  number-of-label n h = go (label-case f n)
+    where
+      go : LabelCase f n (labelFor f n) → numberFor f (labelFor f n) ≡ n
+      go (is-own e l) = rw l (sym e)
+      go (is-fork lo hi l) = rw l
+      go (is-unknown e l) = rw l (sym e)
+      go (is-several lo l) = rw l (omega arith)
+
+-- the labels of a routine: own, each fork that it may have, unknown and several
 abbrev pub InRange : Label → Type 0
 InRange own = Unit {0}
-InRange (forked i) = (1 ≤ i) × (i ≤ 8)
+InRange (forked i) = (1 ≤ i) × (i ≤ most-forks)
 InRange unknown = Unit {0}
 InRange several = Unit {0}
 
@@ -21,51 +74,12 @@ pub label-of-number : (l : Label) → InRange l → labelOf (number l) ≡ l
 label-of-number own h = refl
 label-of-number (forked i) h =
     let z : i ≡ 0 → ⊥ = λ e. omega arith in
-    rw (ne-eqb i 0 z, le-leb i 8 (h .1))
+    rw (ne-eqb i 0 z, le-leb i most-forks (h .1))
 label-of-number unknown h = refl
 label-of-number several h = refl
 
-pub number-of-label : (n : ℕ) → n ≤ 10 → number (labelOf n) ≡ n
-number-of-label n h = eqb→eq (number (labelOf n)) n (at-below 11 (λ k. eqb (number (labelOf k)) k) tt n (omega arith))
-
-pub number-le : (l : Label) → InRange l → number l ≤ 10
-number-le own h = omega arith
-number-le (forked i) h = omega arith
-number-le unknown h = omega arith
-number-le several h = omega arith
-
--- a label in range is known by its number
-pub number-injective : (l m : Label) → InRange l → InRange m → number l ≡ number m → l ≡ m
-number-injective l m h k e = sym (label-of-number l h) ∙ (ap labelOf e ∙ label-of-number m k)
-
--- the number of the combined label: equal numbers of own or of a fork are kept, all else is several
-abbrev pub combined : ℕ → ℕ → ℕ
-combined a b = cond (eqb a b && leb a 8) a 10
-
-pub combine-labels : (a b : ℕ) → a < 11 → b < 11 → number (combine (labelOf a) (labelOf b)) ≡ combined a b
-unfolding ℕ-discrete
-combine-labels a b h k =
-    eqb→eq (number (combine (labelOf a) (labelOf b))) (combined a b)
-    (at-both 11 11 (λ x y. eqb (number (combine (labelOf x) (labelOf y))) (combined x y)) tt a b h k)
-
-pub combine-numbers :
-    (l m : Label) → InRange l → InRange m → number (combine l m) ≡ combined (number l) (number m)
-combine-numbers l m h k =
-    rw (label-of-number l h, label-of-number m k) at
-    (combine-labels (number l) (number m) (let q = number-le l h in omega arith) (let q = number-le m k in omega arith))
-
--- combining stays in range
-pub combine-in-range : (l m : Label) → InRange l → InRange m → InRange (combine l m)
-unfolding ℕ-discrete
-combine-in-range own own h k = tt
-combine-in-range own (forked i) h k = tt
-combine-in-range own unknown h k = tt
-combine-in-range own several h k = tt
-combine-in-range (forked i) own h k = tt
-combine-in-range (forked i) (forked j) h k =
-    elim (ℕ-discrete i j)
-    as (λ d. InRange (elim d as (λ c. Label) [ yes p ↦ forked i | no n ↦ several ])) [ yes p ↦ h | no n ↦ tt ]
-combine-in-range (forked i) unknown h k = tt
-combine-in-range (forked i) several h k = tt
-combine-in-range unknown m h k = tt
-combine-in-range several m h k = tt
+pub number-lt : (l : Label) → InRange l → number l < labels
+number-lt own h = omega arith
+number-lt (forked i) h = omega arith
+number-lt unknown h = omega arith
+number-lt several h = omega arith

@@ -5,8 +5,8 @@ use Rattle.grid.proofs.Closed.{none-grown, one-grown}
 use Rattle.grid.proofs.closing.close_in.Statement.{statement}
 use Rattle.grid.proofs.closing.close_in.Tie as tie
 
-labels-requires : tie.Need-labels-requires
-labels-requires c κs = search needs
+row-labels-requires : tie.Need-row-labels-requires
+row-labels-requires c κs = search needs
 
 any-requires : tie.Need-any-requires
 any-requires c κs = search needs
@@ -16,7 +16,8 @@ returns c =
     let n = c .before in
     let v = n .before in
     let s = v .before .before in (
-      none-grown (s .args .g .now) (v .labels .result) (v .labels .ensures) (rw (c .if1 .taken) at (n .any .ensures)),
+      none-grown (s .args .g .now) (v .row-labels .result) (v .row-labels .ensures)
+          (rw (c .if1 .taken) at (n .any .ensures)),
       s .pre,
     )
 
@@ -33,7 +34,7 @@ returns-2 c =
     let v = n .before in
     let g = v .before .before .args .g .now in
     let w = c .close-one .ensures in (
-      one-grown g (v .labels .result) (n .any .result) (o .sole .result) (v .labels .ensures) (n .any .ensures)
+      one-grown g (v .row-labels .result) (n .any .result) (o .sole .result) (v .row-labels .ensures) (n .any .ensures)
           (omega arith) (o .sole .ensures) _ (w .0),
       w .1,
     )
@@ -48,7 +49,7 @@ pub close-in-spec : {M : Type 1} → statement M
 close-in-spec =
     tie.close
     (tie.spec
-    labels-requires
+    row-labels-requires
     any-requires
     returns
     sole-requires

@@ -4,6 +4,8 @@ use mathlib.Core.Logic.{inl, ⊎-elim}
 use Prim.Native.Nat.{_≤_, _-_}
 use native.Mathlib.Omega.{arith}
 use borrow.Author.Needs.{needs}
+use Rattle.rules.specs.Label.{unknown}
+use Rattle.rules.specs.Number.{number, labels}
 use Rattle.grid.specs.Grid.{Proper}
 use Rattle.grid.specs.Planes.{Grown, InPlanes}
 use Rattle.grid.proofs.Growing.{grown-none, planes-more, planes-skip}
@@ -11,10 +13,10 @@ use Rattle.grid.proofs.closing.put_named.Statement.{statement}
 use Rattle.grid.proofs.closing.put_named.Tie as tie
 
 abbrev Inv-loop : tie.InvT-loop
-Inv-loop g₀ p c l₀ g l = (l ≤ 9) × Proper g × Grown g₀ (InPlanes l p) g
+Inv-loop g₀ p c l₀ g l = (l ≤ number unknown) × Proper g × Grown g₀ (InPlanes l p) g
 
 abbrev μ-loop : tie.MeasureT-loop
-μ-loop g₀ p c l₀ g l = 11 - l
+μ-loop g₀ p c l₀ g l = labels - l
 
 loop-holds : tie.Need-loop-holds Inv-loop μ-loop
 loop-holds c = (omega arith, c .pre .0, grown-none (λ a b k p. let z = p .0 in omega arith))
@@ -64,7 +66,7 @@ loop-again c =
 returns : tie.Need-returns Inv-loop μ-loop
 returns c =
     let l = c .before .loop in
-    let e : l .l ≡ 9 = omega arith in
+    let e : l .l ≡ number unknown = omega arith in
     (rw e at (l .inv .2), l .inv .1)
 
 pub put-named-spec : {M : Type 1} → statement M

@@ -6,6 +6,7 @@ use native.Mathlib.Omega.{arith}
 use lib.ListN.{getD}
 use borrow.Author.Needs.{needs}
 use lib.ListN.{replicate}
+use Rattle.rules.specs.Number.{labels}
 use Rattle.grid.specs.Rows.{Has, Rel, Edge, Or, Same}
 use Rattle.grid.proofs.Relations.{Some, some-none, some-more, some-skip, same-or}
 use Rattle.grid.proofs.Shapes.{zero-edge}
@@ -14,10 +15,10 @@ use Rattle.grid.proofs.planes.chosen.Tie as tie
 
 abbrev Inv-loop : tie.InvT-loop
 Inv-loop p c next₀ l₀ next l =
-    (l ≤ 11) × Same (Edge next) (Or (Edge next₀) (Some l (λ l a b. Has c l × Edge (getD p l []) a b)))
+    (l ≤ labels) × Same (Edge next) (Or (Edge next₀) (Some l (λ l a b. Has c l × Edge (getD p l []) a b)))
 
 abbrev μ-loop : tie.MeasureT-loop
-μ-loop p c next₀ l₀ next l = 11 - l
+μ-loop p c next₀ l₀ next l = labels - l
 
 loop-holds : tie.Need-loop-holds Inv-loop μ-loop
 loop-holds c = (omega arith, some-none _ _)

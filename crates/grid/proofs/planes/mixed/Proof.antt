@@ -5,6 +5,8 @@ use Prim.Native.Nat.{ℕ, _≤_, _-_}
 use native.Mathlib.Omega.{arith}
 use lib.ListN.{getD}
 use borrow.Author.Needs.{needs}
+use Rattle.rules.specs.Label.{several}
+use Rattle.rules.specs.Number.{number, labels}
 use Rattle.grid.specs.Rows.{Rel, Edge, Or, Then, Same}
 use Rattle.grid.specs.Planes.{Other}
 use Rattle.grid.proofs.Relations.{Some, some-none, some-more, some-skip, same-or}
@@ -13,10 +15,10 @@ use Rattle.grid.proofs.planes.mixed.Tie as tie
 
 abbrev Inv-loop : tie.InvT-loop
 Inv-loop p c next₀ l₀ next l =
-    (l ≤ 11) × Same (Edge next) (Or (Edge next₀) (Some l (λ l. Then (Edge (getD p l [])) (Other p l))))
+    (l ≤ labels) × Same (Edge next) (Or (Edge next₀) (Some l (λ l. Then (Edge (getD p l [])) (Other p l))))
 
 abbrev μ-loop : tie.MeasureT-loop
-μ-loop p c next₀ l₀ next l = 11 - l
+μ-loop p c next₀ l₀ next l = labels - l
 
 element-copy-out-next : tie.Need-element-copy-out-next Inv-loop μ-loop
 element-copy-out-next c = search needs
@@ -57,7 +59,7 @@ loop-again c =
     let s = c .before .before .before .before in
     let p = s .args .p .now in
     let F : ℕ → Rel = λ l. Then (Edge (getD p l [])) (Other p l) in
-    let R : Rel = Edge (getD p 10 []) in (
+    let R : Rel = Edge (getD p (number several) []) in (
       omega arith,
       ⊎-elim
           (λ w. rw (w .5)
@@ -65,11 +67,11 @@ loop-again c =
           (same-or (Edge (l .next)) _ (F (l .l)) (w .4 .ensures)
           (λ i j q.
           let x = w .3 .ensures .to (q .0) j (q .2) in
-          (q .0, q .1, (x .0, w .2 .ensures .to (x .0) (x .2) .1, x .3)))
+          (q .0, q .1, (x .0, x .1, w .2 .ensures .to (x .0) (x .2) .1, x .3)))
           (λ i j q.
           let x = q .2 in
-          let h = s .pre (x .0) (x .1 .0) (q .0) j (x .2) in
-          (q .0, q .1, w .3 .ensures .from (q .0) j (x .0, x .1 .0, w .2 .ensures .from (x .0) (h, x .1), x .2))))))
+          let h = s .pre (x .0) (x .1) (q .0) j (x .3) in
+          (q .0, q .1, w .3 .ensures .from (q .0) j (x .0, x .1, w .2 .ensures .from (x .0) (h, x .2), x .3))))))
           (λ w. rw (w .1)
           (some-skip R F (Edge (l .next)) (l .l) (l .inv .1)
           (λ i j q. w .0 .left (s .pre (l .l) (omega arith) i (q .0) (q .1)))))

@@ -5,6 +5,7 @@ use mathlib.Core.List.{[]}
 use Prim.Native.Nat.{_-_}
 use native.Mathlib.Omega.{arith}
 use borrow.Author.Needs.{needs}
+use Rattle.rules.specs.Number.{labels}
 use Rattle.grid.specs.Rows.{Edge, Same}
 use Rattle.grid.specs.Planes.{Labelled}
 use Rattle.grid.proofs.Shapes.{zero-pair}
@@ -13,13 +14,13 @@ use Rattle.grid.proofs.planes.planes.Statement.{statement}
 use Rattle.grid.proofs.planes.planes.Tie as tie
 
 abbrev Inv-loop : tie.InvT-loop
-Inv-loop g u c next₀ l₀ next l = Passed [] 11 (λ l r. Same (Edge r) (Labelled g l)) next₀ next l
+Inv-loop g u c next₀ l₀ next l = Passed [] labels (λ l r. Same (Edge r) (Labelled g l)) next₀ next l
 
 abbrev μ-loop : tie.MeasureT-loop
-μ-loop g u c next₀ l₀ next l = 11 - l
+μ-loop g u c next₀ l₀ next l = labels - l
 
 loop-holds : tie.Need-loop-holds Inv-loop μ-loop
-loop-holds c = passed-none [] 11 _ _ refl
+loop-holds c = passed-none [] labels _ _ refl
 
 cast-if1 : tie.Need-cast-if1 Inv-loop μ-loop
 cast-if1 c = search needs
@@ -47,11 +48,11 @@ loop-again c =
     let l = c .before .before .loop in
     let s = c .before .before .before in
     ⊎-elim
-    (λ w. rw (w .2) (passed-more [] 11 _ _ (l .next) (l .l) _ (l .inv) (omega arith) (w .1 .ensures)))
+    (λ w. rw (w .2) (passed-more [] labels _ _ (l .next) (l .l) _ (l .inv) (omega arith) (w .1 .ensures)))
     (λ w. rw (w .1)
-    (passed-skip [] 11 _ _ (l .next) (l .l) (l .inv) (omega arith)
+    (passed-skip [] labels _ _ (l .next) (l .l) (l .inv) (omega arith)
     (record {
-      to = λ i j e. absurd (zero-pair 11 16 (l .l) i j e);
+      to = λ i j e. absurd (zero-pair labels 16 (l .l) i j e);
       from = λ i j e. absurd (w .0 .left (s .pre .1 .from (l .l) (j, s .pre .0 .from j (l .l) (i, e))));
     })))
     (c .if1 .came)

@@ -1,4 +1,4 @@
--- `labels` meets its contract: the loop's turn i makes row i the labels of row i of the grid.
+-- `row_labels` meets its contract: the loop's turn i makes row i the labels of row i of the grid.
 use mathlib.Core.Path.{refl}
 use mathlib.Core.Logic.{⊎-elim}
 use Prim.Native.Nat.{_-_}
@@ -7,8 +7,8 @@ use borrow.Author.Needs.{needs}
 use Rattle.grid.specs.Planes.{RowLabels}
 use Rattle.grid.proofs.Shapes.{zero-row, cell-row}
 use Rattle.grid.proofs.Loops.{Passed, passed-none, passed-more, passed-skip, RowIs, rows-all}
-use Rattle.grid.proofs.planes.labels.Statement.{statement}
-use Rattle.grid.proofs.planes.labels.Tie as tie
+use Rattle.grid.proofs.planes.row_labels.Statement.{statement}
+use Rattle.grid.proofs.planes.row_labels.Tie as tie
 
 abbrev Inv-loop : tie.InvT-loop
 Inv-loop g next₀ i₀ next i = Passed 0 16 (RowIs (RowLabels g)) next₀ next i
@@ -56,8 +56,8 @@ returns c =
     rows-all _ _ _ _ (c .before .loop .inv) (omega arith)
     (λ a l p. cell-row (s .args .g .now) 16 a (p .0) l (s .pre .rows) (p .1))
 
-pub labels-spec : {M : Type 1} → statement M
-labels-spec =
+pub row-labels-spec : {M : Type 1} → statement M
+row-labels-spec =
     tie.close
     (tie.spec
     Inv-loop
