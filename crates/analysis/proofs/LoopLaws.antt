@@ -11,12 +11,12 @@ use lib.Bits.{bitOr, or-lt}
 use Rattle.table.specs.Program.{Program, params, body}
 use Rattle.table.specs.laws.ScopeMask.{grows, shift-one}
 use Rattle.table.specs.laws.Sound.{counts-length, counts-params}
-use Rattle.rules.specs.Label.{Label, own, forked, unknown, several}
 use Rattle.rules.specs.Verdict.{Calls}
 use Rattle.grid.specs.Rows.{Has, Bits}
 use Rattle.grid.specs.laws.Masks.{has-zero, has-below, has-left, has-right}
-use Rattle.rows.specs.Model.{Labelled, RowAdded, Cleared, total, Moves}
+use Rattle.rows.specs.Model.{RowAdded, Cleared, total, Moves}
 use Rattle.rows.specs.laws.Totals.{room-falls}
+use Rattle.rows.specs.laws.Cells.{no-label}
 use Rattle.table.specs.Constants.{row-bytes}
 use Rattle.analysis.specs.laws.Due.{All}
 use Rattle.analysis.specs.laws.Settle.{Partly, Fresh}
@@ -235,12 +235,6 @@ cleared-partly P before after l k = record {
   ring-sound = λ r lr h. absurd (let z = k .zero (65 * r + 64) (omega arith) in omega arith);
   fresh = λ r lr n. absurd (n lr);
 }
-  where
-    no-label : (v : ℕ) (m : Label) → v ≡ 0 → Labelled v m → ⊥
-    no-label v own e h = has-zero 0 (rw e at h)
-    no-label v (forked i) e h = h
-    no-label v unknown e h = has-zero 1 (rw e at h)
-    no-label v several e h = has-zero 2 (rw e at h)
 
 -- what is settled from cleared rows
 pub settled-from : (ks s starts callers before cleared after names : List ℕ)

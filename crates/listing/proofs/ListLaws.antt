@@ -19,7 +19,7 @@ use Rattle.analysis.specs.declared.Answer.{Answer}
 use Rattle.analysis.specs.declared.Answer.the-variants.{Judged, Refused}
 use Rattle.listing.specs.Text.{listing, Listed}
 use Rattle.listing.specs.laws.Appending.{Appends, sets-over}
-use Rattle.listing.specs.laws.Small.{Small}
+use Rattle.listing.specs.laws.Digits.{FewDigits}
 
 -- the answers are of two kinds
 abbrev kind : Answer → ℕ
@@ -39,9 +39,9 @@ module _ (T before after : List ℕ) (answer : Answer) (h : Analysed T before af
         let n = ap (λ (t : List ℕ). getD t 0 0) (sound T P bytes c .0) in omega (arith, accepted-few T P bytes c .0)
 
   -- its share is that of the table's program, and so it is small
-  pub judged-small : (v : Verdict) (s : Share) → Bytes T → answer ≡ Judged v s → Small s
+  pub judged-small : (v : Verdict) (s : Share) → Bytes T → answer ≡ Judged v s → FewDigits s
   judged-small v s bytes j = by (checkTable T) refl where
-    small : (P : Program) → checkTable T ≡ accepted P → Shares P s → Small s
+    small : (P : Program) → checkTable T ≡ accepted P → Shares P s → FewDigits s
     small P c sh =
         let few = accepted-few T P bytes c .0 in
         let reached = reached-few P (s .percent) (s .remainder) (s .reached) sh (well-formed P (sound T P bytes c .1)) in
@@ -53,7 +53,7 @@ module _ (T before after : List ℕ) (answer : Answer) (h : Analysed T before af
           reached-few = omega arith;
         }
 
-    sized : (P : Program) → checkTable T ≡ accepted P → Dec (length before < row-bytes * length P) → Small s
+    sized : (P : Program) → checkTable T ≡ accepted P → Dec (length before < row-bytes * length P) → FewDigits s
     sized P c (yes lt) = absurd (not-refused v s short-buffer j (h .refused-buffer P c lt .0))
     sized P c (no ge) =
         let w = h .judged P c (omega arith) in
@@ -61,7 +61,7 @@ module _ (T before after : List ℕ) (answer : Answer) (h : Analysed T before af
         let e : w .1 ≡ s = cc in
         small P c (rw e at (w .3 .shares))
 
-    by : (o : Outcome) → checkTable T ≡ o → Small s
+    by : (o : Outcome) → checkTable T ≡ o → FewDigits s
     by (refused e) c = absurd (not-refused v s e j (h .refused-table e c .0))
     by (accepted P) c = sized P c (decLt (length before) (row-bytes * length P))
 

@@ -7,7 +7,7 @@ ghost use Rattle.analysis.specs.Answer.{Short};
 ghost use Rattle.analysis.specs.declared.Answer.the-variants.{Judged};
 ghost use Rattle.listing.specs.Text.{Listed, listing, longest};
 ghost use Rattle.listing.specs.laws.Appending.{Appends};
-ghost use Rattle.listing.specs.laws.Small.{Small};
+ghost use Rattle.listing.specs.laws.Digits.{FewDigits};
 
 mod lines;
 mod text;
@@ -37,7 +37,7 @@ fn routines(table: &[u8]) -> usize
 
 // Writes the listing of a table of n routines that was judged.
 fn list_judged(out: &mut [u8], n: usize, model: &[u8], verdict: Verdict, share: Share) -> usize
-    requires { ⌜ (n ≤ most-routines) × Short verdict × Small share ⌝ }
+    requires { ⌜ (n ≤ most-routines) × Short verdict × FewDigits share ⌝ }
     ensures { λ p. ⌜ Appends 0 (listing n (now (model .entry)) (Judged verdict share)) (now (out .entry))
         (now (out .exit)) p ⌝ }
     ensures few { λ p. ⌜ p ≤ longest ⌝ }

@@ -6,7 +6,7 @@ ghost use lib.ListN.{length, getD};
 ghost use Rattle.table.specs.Constants.{most-routines, row-names};
 ghost use Rattle.analysis.specs.Answer.{Short};
 ghost use Rattle.listing.specs.Text.{cellLine, each, line, pair-word, pairLines, ring-word, shareLine, verdictLine};
-ghost use Rattle.listing.specs.laws.Small.{Small};
+ghost use Rattle.listing.specs.laws.Digits.{FewDigits};
 ghost use Rattle.listing.specs.laws.Appending.{Appends};
 use crate::text::put;
 use crate::text::put_number;
@@ -108,7 +108,7 @@ pub fn put_rows(out: &mut [u8], at: usize, model: &[u8], n: usize) -> usize
 
 // Appends the line of a share.
 pub fn put_share(out: &mut [u8], at: usize, share: Share) -> usize
-    requires { ⌜ (at < 70000) × Small share ⌝ }
+    requires { ⌜ (at < 70000) × FewDigits share ⌝ }
     ensures { λ p. ⌜ Appends at (shareLine share) (now (out .entry)) (now (out .exit)) p ⌝ }
     ensures few { λ p. ⌜ p ≤ at + 15 ⌝ }
 {

@@ -18,11 +18,12 @@ use Rattle.rules.specs.Number.{number, labelOf, labels}
 use Rattle.rules.specs.Model.{Kept, renamed}
 use Rattle.grid.specs.Rows.{Has, Bits}
 use Rattle.grid.specs.Grid.{In, Small, Added}
-use Rattle.grid.specs.laws.Masks.{has-zero, below-bits, bits-or, bits-one, bits-shl}
+use Rattle.grid.specs.laws.Masks.{below-bits, bits-or, bits-one, bits-shl}
 use Rattle.grid.specs.laws.Labels.{not-several, in-one, one-in}
 use Rattle.pairs.specs.Walks.{heldBy, inNest, holderUnder}
 use Rattle.pairs.specs.Gains.{HoldersGive, CallGives, Gains, namesAt, Low, MaskGives, Placed}
 use Rattle.rows.specs.Model.{Labelled, RowBits}
+use Rattle.rows.specs.laws.Cells.{no-label}
 use Rattle.pairs.specs.Gains.{Below, CellGives, LineGives, RowGives, RowReady, CallReady}
 use Rattle.pairs.proofs.Pending.{LockGives}
 use Rattle.pairs.proofs.Steps.{held-name, in-nest, not-in-nest}
@@ -221,11 +222,6 @@ placed-mask v t l = record { small = low; only = only; all = all }
     all own h = (t, omega arith, refl, bits .from t (inl (inl (h, refl))))
     all unknown h = (number unknown, omega arith, refl, bits .from (number unknown) (inl (inr (h, refl))))
     all several h = (number several, omega arith, refl, bits .from (number several) (inr (h, refl)))
-
-no-label : (v : ℕ) (m : Label) → v ≡ 0 → Labelled v m → ⊥
-no-label v own e h = has-zero 0 (rw e at h)
-no-label v unknown e h = has-zero 1 (rw e at h)
-no-label v several e h = has-zero 2 (rw e at h)
 
 -- the gains one after another
 pub below-none : (N : ℕ → ℕ → ℕ → Label → Type 0) (g : List (List ℕ)) → Small g → Gains g (Below N 0) g

@@ -14,9 +14,8 @@ use Rattle.rules.specs.Label.{several}
 use Rattle.grid.specs.Grid.{Pair, LowestRing}
 use Rattle.rows.specs.Added.{CellBit, AtByte, AtCell, AtRing, Below, Added}
 use Rattle.rows.specs.laws.Totals.{total-set, moves-or}
-use Rattle.rows.proofs.Masks.{or-bits, no-bits}
-use Rattle.grid.specs.laws.Masks.{or-le}
-use Rattle.grid.specs.laws.Masks.{has-zero, has-below}
+use Rattle.rows.proofs.Masks.{no-bits}
+use Rattle.grid.specs.laws.Masks.{or-le, has-left, has-right, has-or, has-zero, has-below}
 
 pub added-none : (W : Rel) (l : List ℕ) → ((i j : ℕ) → W i j → ⊥) → Added W l l false
 added-none W l never = record {
@@ -84,7 +83,7 @@ module _ (l : List ℕ) (i v : ℕ) where
     long = refl;
     bits = λ p. record {
       to = λ j h. inl h;
-      from = λ j h. ⊎-elim (λ o. o) (λ w. rw (w .0, ← e) (or-bits (getD l i 0) v .from j (inr (w .1)))) h;
+      from = λ j h. ⊎-elim (λ o. o) (λ w. rw (w .0, ← e) (has-right (getD l i 0) v j (w .1))) h;
     };
     rest = λ p never. refl;
     told = refl;
@@ -102,8 +101,8 @@ module _ (l : List ℕ) (i v : ℕ) where
     byte-bits p (yes e) =
         rw (e, here)
         (record {
-          to = λ j h. ⊎-elim (λ o. inl o) (λ w. inr (refl, w)) (or-bits (getD l i 0) v .to j h);
-          from = λ j h. or-bits (getD l i 0) v .from j (⊎-elim (λ o. inl o) (λ w. inr (w .1)) h);
+          to = λ j h. ⊎-elim (λ o. inl o) (λ w. inr (refl, w)) (has-or (getD l i 0) v j h);
+          from = λ j h. ⊎-elim (λ o. has-left (getD l i 0) v j o) (λ w. has-right (getD l i 0) v j (w .1)) h;
         })
     byte-bits p (no n) =
         rw (there p n)

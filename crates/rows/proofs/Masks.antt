@@ -1,29 +1,19 @@
--- The bits of masks: those of `|`, those below a bound, and the byte of a cell.
+-- The bits of masks: those of a low part, and the byte of a cell.
 use mathlib.Core.Path.{_≡_, refl, sym, ap, _∙_}
 use mathlib.Core.Logic.{_⊎_, inl, inr, ⊎-elim}
 use Prim.Native.Nat.{ℕ, zero, suc, _+_, _*_, _/_, _%_, _^_, _<_, _≤_}
 use native.Mathlib.Omega.{arith}
 use native.Mathlib.Decide.{ℕ-discrete}
-use native.Mathlib.Nat.{div-lt-iff-lt-mul, one-mul, zero-mul, eq-or-lt-of-le}
-use lib.Bits.{bitOr}
-use lib.Pow.{pow-pos, shr-shr, shr-le, mod-pow-add}
+use native.Mathlib.Nat.{one-mul, zero-mul, eq-or-lt-of-le}
+use lib.Pow.{pow-pos, shr-shr, mod-pow-add}
 use Rattle.table.specs.Constants.{most-forks}
 use Rattle.rules.specs.Label.{Label, own, forked, unknown, several, cut}
 use Rattle.rules.specs.Number.{number, labelOf, labels}
 use Rattle.rules.specs.laws.Number.{LabelCase, is-own, is-fork, is-unknown, is-several, label-case}
-use Rattle.grid.specs.laws.Masks.{or-bit, has-below}
+use Rattle.grid.specs.laws.Masks.{has-below, below-bits}
 use Rattle.grid.specs.Rows.{Has, Bits}
 use Rattle.rows.specs.Model.{Labelled}
 use Rattle.rows.specs.Added.{bitOf, CellBit}
-
-pub or-bits : (a b : ℕ) → Bits (bitOr a b) (λ j. Has a j ⊎ Has b j)
-or-bits a b = record {
-  to = λ j h. elim (ℕ-discrete (a / 2 ^ j % 2) 1) [
-    | yes p ↦ inl p
-    | no p ↦ inr (omega (arith, or-bit a b j))
-  ];
-  from = λ j h. ⊎-elim (λ p. omega (arith, or-bit a b j)) (λ p. omega (arith, or-bit a b j)) h;
-}
 
 mod-suc : (f x : ℕ) → x % 2 ^ suc f ≡ x / 2 ^ f % 2 * 2 ^ f + x % 2 ^ f
 mod-suc f x = let e : suc f ≡ 1 + f = omega arith in ap (λ n. x % 2 ^ n) e ∙ mod-pow-add x 1 f
@@ -57,21 +47,9 @@ half-bit : (m n : ℕ) → m / 2 / 2 ^ n % 2 ≡ m / 2 ^ suc n % 2
 half-bit m n =
     let e : 1 + n ≡ suc n = omega arith in ap (λ x. x % 2) (shr-shr m 1 n) ∙ ap (λ k. m / 2 ^ k % 2) e
 
--- a byte whose bits are all below n is below 2 ^ n
-pub below-bits : (n m : ℕ) → m < 256 → ((k : ℕ) → Has m k → k < n) → m < 2 ^ n
-below-bits n m l h = ⊎-elim over under (low-bit 8 (m / 2 ^ n))
-  where
-    over : (k : ℕ) × (k < 8) × Has (m / 2 ^ n) k → m < 2 ^ n
-    over w =
-        let z : n + w .0 < n = h (n + w .0) (ap (λ x. x % 2) (sym (shr-shr m n (w .0))) ∙ w .2) in absurd (omega arith)
-
-    under : m / 2 ^ n % 2 ^ 8 ≡ 0 → m < 2 ^ n
-    under e =
-        let z : m < 1 * 2 ^ n = div-lt-iff-lt-mul (pow-pos n) .0 (let s = shr-le m n in omega arith) in rw one-mul at z
-
 -- a byte with no bit is zero
 pub no-bits : (m : ℕ) → m < 256 → ((k : ℕ) → Has m k → ⊥) → m ≡ 0
-no-bits m l h = let z : m < 2 ^ 0 = below-bits 0 m l (λ k p. absurd (h k p)) in omega arith
+no-bits m l h = let z : m < 2 ^ 0 = below-bits 0 m (omega arith) (λ k p. absurd (h k p)) in omega arith
 
 -- the forks and unknown have one bit in a row
 middle-bit : (n : ℕ) → 1 ≤ n → n ≤ number unknown → bitOf (labelOf n) ≡ 1

@@ -12,8 +12,8 @@ use Rattle.grid.specs.Rows.{Has, Rel}
 use Rattle.grid.specs.Grid.{Pair}
 use Rattle.rows.specs.Model.{RowBits, RingByte, ShapedRow, GridRow, HasRing, RowAdded}
 use Rattle.rows.specs.Added.{bitOf, AtRing, InGrid, Added}
-use Rattle.rows.proofs.Masks.{below-bits, bit-lt, cut-bit, labelled-has, has-labelled}
-use Rattle.grid.specs.laws.Masks.{has-below}
+use Rattle.rows.proofs.Masks.{bit-lt, cut-bit, labelled-has, has-labelled}
+use Rattle.grid.specs.laws.Masks.{has-below, below-bits}
 use Rattle.rows.proofs.Adding.{added-then}
 
 -- a byte of a row's cells is in one cell alone
@@ -92,11 +92,11 @@ module _ (e x : List ℕ) (r k : ℕ) (g : List (List ℕ)) (f : Bool) (few : k 
     shaped-row : (q : ℕ) → ShapedRow e q → ShapedRow x q
     shaped-row q s = record {
       cells = λ i hi.
-          below-bits 3 (getD x (65 * q + i) 0) (bytes (65 * q + i))
+          below-bits 3 (getD x (65 * q + i) 0) (let b = bytes (65 * q + i) in omega arith)
           (λ j h. cell-bit i hi j (added .bits (65 * q + i) .to j h));
       last =
           let z : getD x (65 * q + 64) 0 < 2 =
-          below-bits 1 (getD x (65 * q + 64) 0) (bytes (65 * q + 64))
+          below-bits 1 (getD x (65 * q + 64) 0) (let b = bytes (65 * q + 64) in omega arith)
           (λ j h. last-bit j (added .bits (65 * q + 64) .to j h)) in
           omega arith;
     }
