@@ -164,7 +164,8 @@ static long read_table(const char *file, bool hex, uint8_t *bytes, size_t size)
     return length;
 }
 
-/* Says what a ring is at. The routine's parameters are its first names, its NEW items in written order those after. */
+/* Says what a ring is at. The routine's parameters are its first names; after them come those of its NEW and MIRROR
+ * items, as they are written. */
 static void tell_ring(const uint8_t *table, unsigned routine, unsigned name)
 {
     static const char *const ordinals[] = {"first", "second", "third", "fourth", "fifth", "sixth", "seventh", "eighth"};
@@ -172,7 +173,7 @@ static void tell_ring(const uint8_t *table, unsigned routine, unsigned name)
     bool parameter = name <= parameters;
     fputs("launcher: threads may come to wait for each other in a circle, at ", stderr);
     fprintf(stderr, "the %s %s of routine %u (name %u)\n", ordinals[(parameter ? name : name - parameters) - 1],
-            parameter ? "parameter" : "NEW", routine, name);
+            parameter ? "parameter" : "NEW or MIRROR", routine, name);
 }
 
 /* Analyses a table, prints the verdict, says what it means, and gives the exit status. */

@@ -3,7 +3,7 @@
  *
  * Link with the archive that `rt staticlib analysis` writes, target/staticlib/libanalysis.a. The calls keep no state,
  * take no memory of their own, write nothing but what is said here, and are proved to end for every input. They use
- * less than 10 KiB of stack (9,892 bytes measured): have 16 KiB free. Two calls may run at the same time on different
+ * less than 10 KiB of stack (10,132 bytes measured): have 16 KiB free. Two calls may run at the same time on different
  * model buffers. What each refusal's number means is in refusals.h. */
 #ifndef VANGPEAR_H
 #define VANGPEAR_H

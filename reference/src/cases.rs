@@ -3,7 +3,7 @@
 
 use crate::generate::assemble;
 use crate::limits::code::*;
-use crate::limits::{MAX_NEW, MAX_PARAMETERS, MAX_ROUTINES, ROW_BYTES};
+use crate::limits::{MAX_LOCALS, MAX_PARAMETERS, MAX_ROUTINES, ROW_BYTES};
 use crate::{hex, Answer, Share, Verdict};
 
 /// A table with the verdict and the share it must get.
@@ -116,8 +116,60 @@ pub struct Limit {
 }
 
 /// The cases that are not worked ones: both sides of the limits on open blocks,
-/// NEW, routines and the model buffer.
+/// locals, routines and the model buffer.
 pub fn limits() -> Vec<Limit> {
+    let mut all = limits_without_mirrors();
+    all.extend(mirror_limits());
+    all
+}
+
+/// Those on locals of both kinds, and a bad name at one too many.
+pub fn mirror_limits() -> Vec<Limit> {
+    // A routine 1 with one parameter and these items.
+    let table = |items: &[&[u8]]| called(&[1], &[&body(items)]);
+    let mirrors = |count| [MIRROR, 1].repeat(count);
+    let refused = Answer::Refused;
+    [
+        ("8 MIRROR", table(&[&mirrors(8)]), clear(2)),
+        ("9 MIRROR", table(&[&mirrors(9)]), refused(11)),
+        (
+            "5 NEW and 3 MIRROR",
+            table(&[&[NEW; 5], &mirrors(3)]),
+            clear(2),
+        ),
+        (
+            "5 NEW, 3 MIRROR and a ninth that is a NEW",
+            table(&[&[NEW; 5], &mirrors(3), &[NEW]]),
+            refused(11),
+        ),
+        (
+            "5 NEW, 3 MIRROR and a ninth that is a MIRROR",
+            table(&[&[NEW; 5], &mirrors(4)]),
+            refused(11),
+        ),
+        (
+            "a ninth local that is a MIRROR of a name out of scope",
+            table(&[&[NEW; 8], &[MIRROR, 10]]),
+            refused(11),
+        ),
+        (
+            "an eighth local that is a MIRROR of a name out of scope",
+            table(&[&[NEW; 7], &[MIRROR, 9]]),
+            refused(13),
+        ),
+    ]
+    .into_iter()
+    .map(|(name, table, answer)| Limit {
+        name,
+        buffer: ROW_BYTES * table[0] as usize,
+        table,
+        answer,
+    })
+    .collect()
+}
+
+/// Those of tables without a MIRROR.
+pub fn limits_without_mirrors() -> Vec<Limit> {
     // A routine 1 with one parameter that opens `depth` blocks, one in another.
     let nested = |open: &[u8], close: &[u8], depth: usize| {
         let section = [
@@ -178,6 +230,13 @@ pub fn limits() -> Vec<Limit> {
 
 /// Tables that come out otherwise where one rule is read otherwise.
 pub fn rules() -> Vec<Case> {
+    let mut all = rules_without_mirrors();
+    all.extend(mirror_rules());
+    all
+}
+
+/// Those without a MIRROR.
+pub fn rules_without_mirrors() -> Vec<Case> {
     let mut all = pair_rules();
     all.extend(nest_rules());
     all.extend(share_rules());
@@ -210,14 +269,20 @@ fn choice(first: &[u8], second: &[u8]) -> Vec<u8> {
     [&[CHOICE], first, &[OTHER], second, &[END]].concat()
 }
 
+/// A body of these items, one after another.
+fn body(parts: &[&[u8]]) -> Vec<u8> {
+    [&parts.concat()[..], &[END]].concat()
+}
+
+/// A table whose routine 1 has a body of these items, and calls none.
+fn alone(parameters: u8, parts: &[&[u8]]) -> Vec<u8> {
+    called(&[parameters], &[&body(parts)])
+}
+
 /// Tables that tell what counts as one thread, one body, one name and one nest, for a
 /// LOCK that is passed over.
 fn nest_rules() -> Vec<Case> {
     let lock = |name: u8| nest(&[name], &[]);
-    // A body of these items, one after another.
-    let body = |parts: &[&[u8]]| [&parts.concat()[..], &[END]].concat();
-    // A table whose routine 1 has that body, and calls none.
-    let alone = |parameters: u8, parts: &[&[u8]]| called(&[parameters], &[&body(parts)]);
     let locks_its_parameter = body(&[&lock(1)]);
     let fork_one_then_two = fork(&nest(&[1, 2], &[]));
     let fork_three_then_two = fork(&nest(&[3, 2], &[]));
@@ -374,7 +439,7 @@ fn nest_rules() -> Vec<Case> {
             alone(
                 MAX_PARAMETERS,
                 &[
-                    &[NEW; MAX_NEW as usize],
+                    &[NEW; MAX_LOCALS as usize],
                     &fork(&nest(&[14, 15], &[])),
                     &nest(&[14, 15, 14], &[]),
                 ],
@@ -386,12 +451,346 @@ fn nest_rules() -> Vec<Case> {
             alone(
                 MAX_PARAMETERS,
                 &[
-                    &[NEW; MAX_NEW as usize],
+                    &[NEW; MAX_LOCALS as usize],
                     &fork(&nest(&[15, 7], &[])),
                     &nest(&[7, 15], &[]),
                 ],
             ),
             ring(1, 7, [50, 0, 2]),
+        ),
+    ]
+    .into_iter()
+    .map(|(name, table, answer)| Case {
+        name,
+        table,
+        answer,
+    })
+    .collect()
+}
+
+/// Tables that tell what a mirror stands for, where it is in scope and what of it counts
+/// as a name of its own.
+pub fn mirror_rules() -> Vec<Case> {
+    // The names of the mirrors in a routine with two parameters are 3 and up.
+    let fork_one_then_two = fork(&nest(&[1, 2], &[]));
+    let fork_two_then_one = fork(&nest(&[2, 1], &[]));
+    let one_then_two = body(&[&nest(&[1, 2], &[])]);
+    let two_then = |name: u8| nest(&[2, name], &[]);
+    // Eight mirrors: each of the parameters once and the last mirror, or one in a row.
+    let of_each: Vec<u8> = (1..=7)
+        .chain([14])
+        .flat_map(|name| [MIRROR, name])
+        .collect();
+    let in_a_row: Vec<u8> = (7..=14).flat_map(|name| [MIRROR, name]).collect();
+
+    [
+        // What it stands for.
+        (
+            "a mirror of a parameter is the parameter's lock",
+            alone(2, &[&[MIRROR, 1], &fork_one_then_two, &two_then(3)]),
+            ring(0, 1, [0, 0, 2]),
+        ),
+        (
+            "one order by either name",
+            alone(2, &[&[MIRROR, 1], &fork_one_then_two, &nest(&[3, 2], &[])]),
+            clear(2),
+        ),
+        (
+            "a mirror of a NEW is its lock",
+            plain(&[&[&[NEW, NEW, MIRROR, 1], &fork_one_then_two[..], &two_then(3)].concat()]),
+            ring(0, 1, [0, 0, 1]),
+        ),
+        (
+            "a ring is at the lock's name although only its mirror is taken",
+            plain(&[&[
+                &[NEW, MIRROR, 1, NEW],
+                &fork(&nest(&[2, 3], &[]))[..],
+                &nest(&[3, 2], &[]),
+            ]
+            .concat()]),
+            ring(0, 1, [0, 0, 1]),
+        ),
+        (
+            "a ring at a mirrored lock that is not the lowest name",
+            plain(&[&[
+                &[NEW, NEW, MIRROR, 2, NEW],
+                &fork(&nest(&[3, 4], &[]))[..],
+                &nest(&[4, 3], &[]),
+            ]
+            .concat()]),
+            ring(0, 2, [0, 0, 1]),
+        ),
+        (
+            "a mirror of a mirror",
+            alone(
+                2,
+                &[&[MIRROR, 1, MIRROR, 3], &fork_one_then_two, &two_then(4)],
+            ),
+            ring(0, 1, [0, 0, 2]),
+        ),
+        (
+            "a mirror of a mirror of a mirror",
+            alone(
+                2,
+                &[
+                    &[MIRROR, 1, MIRROR, 3, MIRROR, 4],
+                    &fork_one_then_two,
+                    &two_then(5),
+                ],
+            ),
+            ring(0, 1, [0, 0, 2]),
+        ),
+        (
+            "a mirror and one that leads back over another",
+            alone(
+                2,
+                &[
+                    &[MIRROR, 1, NEW, MIRROR, 3, MIRROR, 5],
+                    &fork(&nest(&[3, 2], &[])),
+                    &two_then(6),
+                ],
+            ),
+            ring(0, 1, [0, 0, 2]),
+        ),
+        (
+            "two mirrors of one lock",
+            alone(
+                2,
+                &[
+                    &[MIRROR, 1, MIRROR, 1],
+                    &fork(&nest(&[3, 2], &[])),
+                    &two_then(4),
+                ],
+            ),
+            ring(0, 1, [0, 0, 2]),
+        ),
+        (
+            "mirrors of two parameters",
+            alone(
+                2,
+                &[
+                    &[MIRROR, 1, MIRROR, 2],
+                    &fork(&nest(&[3, 4], &[])),
+                    &nest(&[4, 3], &[]),
+                ],
+            ),
+            ring(0, 1, [0, 0, 2]),
+        ),
+        (
+            "a mirror of name 7",
+            plain(&[&[
+                &[NEW; 7],
+                &[MIRROR, 7][..],
+                &fork(&nest(&[8, 1], &[])),
+                &nest(&[1, 7], &[]),
+            ]
+            .concat()]),
+            ring(0, 1, [0, 0, 1]),
+        ),
+        (
+            "eight mirrors of seven parameters",
+            alone(
+                MAX_PARAMETERS,
+                &[&of_each, &fork(&nest(&[15, 8], &[])), &nest(&[1, 7], &[])],
+            ),
+            ring(0, 1, [0, 0, 2]),
+        ),
+        (
+            "eight mirrors, each of the one before",
+            alone(
+                MAX_PARAMETERS,
+                &[&in_a_row, &fork(&nest(&[15, 1], &[])), &nest(&[1, 8], &[])],
+            ),
+            ring(0, 1, [0, 0, 2]),
+        ),
+        (
+            "eight mirrors and one order",
+            alone(
+                MAX_PARAMETERS,
+                &[&of_each, &fork(&nest(&[8, 15], &[])), &nest(&[1, 7], &[])],
+            ),
+            clear(2),
+        ),
+        // Threads, blocks and scope.
+        (
+            "a mirror held in a fork",
+            alone(
+                2,
+                &[
+                    &[MIRROR, 1],
+                    &fork(&nest(&[3, 2], &[])),
+                    &nest(&[2, 1], &[]),
+                ],
+            ),
+            ring(0, 1, [0, 0, 2]),
+        ),
+        (
+            "a mirror made in a fork",
+            alone(
+                2,
+                &[
+                    &fork(&[&[MIRROR, 1], &nest(&[3, 2], &[])[..]].concat()),
+                    &nest(&[2, 1], &[]),
+                ],
+            ),
+            ring(0, 1, [0, 0, 2]),
+        ),
+        (
+            "a mirror made in a LOCK block of its lock",
+            alone(
+                2,
+                &[
+                    &fork_one_then_two,
+                    &nest(&[1], &[&[MIRROR, 1], &two_then(3)[..]].concat()),
+                ],
+            ),
+            ring(0, 1, [0, 0, 2]),
+        ),
+        (
+            "locals count on over alternatives with a mirror each",
+            alone(
+                2,
+                &[
+                    &choice(
+                        &[&[MIRROR, 1], &nest(&[3, 2], &[])[..]].concat(),
+                        &[MIRROR, 2],
+                    ),
+                    &[NEW, MIRROR, 2],
+                    &fork(&nest(&[6, 1], &[])),
+                ],
+            ),
+            ring(0, 1, [0, 0, 2]),
+        ),
+        (
+            "each alternative has a mirror of another lock",
+            alone(
+                3,
+                &[&choice(
+                    &[&[MIRROR, 1], &nest(&[4, 3], &[])[..]].concat(),
+                    &[&[MIRROR, 2], &nest(&[5, 3], &[])[..]].concat(),
+                )],
+            ),
+            clear(2),
+        ),
+        // Calls.
+        (
+            "a CALL in the block of a mirror puts its lock for name 0",
+            called(
+                &[2, 1],
+                &[
+                    &body(&[&[MIRROR, 1], &fork_two_then_one, &nest(&[3], &[CALL, 2, 2])]),
+                    &body(&[&nest(&[1], &[])]),
+                ],
+            ),
+            ring(0, 1, [33, 1, 3]),
+        ),
+        (
+            "a CALL passes a mirror's lock",
+            called(
+                &[2, 2],
+                &[
+                    &body(&[&[MIRROR, 1], &fork_two_then_one, &[CALL, 2, 3, 2]]),
+                    &one_then_two,
+                ],
+            ),
+            ring(0, 1, [33, 1, 3]),
+        ),
+        (
+            "a lock and its mirror passed for two parameters of a fork",
+            assemble(
+                &[0, 3],
+                &[
+                    &[NEW, NEW, MIRROR, 1, CALL, 1, 1, 2, 3, END][..],
+                    &body(&[&fork(&nest(&[1, 2, 3], &[]))]),
+                ]
+                .concat(),
+            ),
+            ring(0, 1, [50, 0, 2]),
+        ),
+        (
+            "a pair labelled several between a lock and its mirror is a ring",
+            assemble(
+                &[0, 2],
+                &[&[NEW, MIRROR, 1, CALL, 1, 2, 1, END], &SEVERAL[..]].concat(),
+            ),
+            ring(0, 1, [50, 0, 2]),
+        ),
+        (
+            "an own pair between a lock and its mirror is dropped",
+            called(
+                &[2, 2],
+                &[
+                    &body(&[&[MIRROR, 1, CALL, 2, 1, 3], &nest(&[1, 2], &[])]),
+                    &one_then_two,
+                ],
+            ),
+            clear(3),
+        ),
+        (
+            "a mirror of a parameter that gets the lock of another one",
+            assemble(
+                &[0, 3],
+                &[
+                    &[NEW, NEW, CALL, 1, 1, 2, 1, END][..],
+                    &body(&[&[MIRROR, 3], &fork(&nest(&[1, 2, 4], &[]))]),
+                ]
+                .concat(),
+            ),
+            ring(0, 1, [50, 0, 2]),
+        ),
+        (
+            "a routine that calls itself with a mirror",
+            called(
+                &[2],
+                &[&body(&[
+                    &[MIRROR, 1],
+                    &nest(&[3, 2], &[]),
+                    &[CALL, 1, 2, 3],
+                ])],
+            ),
+            clear(2),
+        ),
+        // The nest, which goes by the names as written.
+        (
+            "a LOCK on a mirror of a name held records its pair",
+            alone(
+                2,
+                &[&[MIRROR, 1], &fork_one_then_two, &nest(&[1, 2, 3], &[])],
+            ),
+            ring(0, 1, [0, 0, 2]),
+        ),
+        (
+            "a LOCK on a name whose mirror is held records its pair",
+            alone(
+                2,
+                &[&[MIRROR, 1], &fork_one_then_two, &nest(&[3, 2, 1], &[])],
+            ),
+            ring(0, 1, [0, 0, 2]),
+        ),
+        (
+            "a LOCK on a mirror that is held is passed over",
+            alone(
+                2,
+                &[&[MIRROR, 1], &fork_one_then_two, &nest(&[3, 2, 3], &[])],
+            ),
+            clear(2),
+        ),
+        (
+            "a LOCK on a mirror directly inside its lock",
+            alone(2, &[&[MIRROR, 1], &nest(&[1, 3, 2], &[])]),
+            clear(2),
+        ),
+        (
+            "inside a mirror passed over the h is the outer one",
+            alone(
+                3,
+                &[
+                    &[MIRROR, 1],
+                    &fork(&nest(&[3, 2], &[])),
+                    &nest(&[4, 2, 4, 3], &[]),
+                ],
+            ),
+            ring(0, 2, [0, 0, 2]),
         ),
     ]
     .into_iter()
@@ -450,7 +849,7 @@ fn opposite(low: u8, high: u8) -> Vec<u8> {
 /// Tables that tell which routines a share counts, what it counts of them, and how it is
 /// reckoned.
 pub fn share_rules() -> Vec<Case> {
-    let one_then_two = [&nest(&[1, 2], &[])[..], &[END]].concat();
+    let one_then_two = body(&[&nest(&[1, 2], &[])]);
     // Routine 0 runs these items, which call routine 1, and routine 1 has a ring.
     let called_in = |items: &[u8]| plain(&[items, &RING]);
     let call = [CALL, 1];

@@ -8,7 +8,7 @@
 
 use std::mem::MaybeUninit;
 
-use crate::limits::{code, refusal, MAX_FORK, MAX_NEW, MAX_OPEN};
+use crate::limits::{code, refusal, MAX_FORK, MAX_LOCALS, MAX_OPEN};
 use crate::limits::{CELL_OWN, CELL_SEVERAL, CELL_UNKNOWN, RING_BYTE, ROW_BYTES, ROW_SIDE};
 use crate::limits::{MAX_PARAMETERS, MAX_ROUTINES, MAX_SECTION};
 use crate::limits::{RING_BASE, RING_NAME, RING_ROUTINE};
@@ -33,6 +33,25 @@ const LANES: usize = 4;
 const WORDS: usize = NAMES / LANES;
 /// The lowest bit of each row of a word.
 const LOWEST: u64 = 0x0001_0001_0001_0001;
+
+/// For each name the one that its pairs are recorded under, four bits a name, the lowest for name 0.
+#[derive(Clone, Copy)]
+struct Roots(u64);
+
+impl Roots {
+    /// Each name for itself: so it is with parameters and NEW.
+    const NEW: Roots = Roots(0xFEDC_BA98_7654_3210);
+
+    #[inline(always)]
+    fn of(self, name: u8) -> u8 {
+        (self.0 >> (4 * name) & 0xF) as u8
+    }
+
+    /// Makes a name, which is for itself, a mirror of another one.
+    fn mirror(&mut self, name: u8, of: u8) {
+        self.0 ^= u64::from(name ^ self.of(of)) << (4 * name);
+    }
+}
 
 /// The first 4 × W rows of a matrix. A routine with few names has but few words.
 type Matrix<const W: usize> = [u64; W];
@@ -111,6 +130,7 @@ struct Body {
     /// Its calls are these of the list of calls.
     first_call: u16,
     after_calls: u16,
+    roots: Roots,
     row: Row,
     /// Routines as bits: those it calls, those that call it, and those whose rows have changed since
     /// their pairs were taken.
@@ -131,6 +151,7 @@ impl Body {
             names: parameters + 1,
             first_call: first_call as u16,
             after_calls: first_call as u16,
+            roots: Roots::NEW,
             row: Row::default(),
             callees: 0,
             callers: 0,
@@ -168,8 +189,9 @@ struct Program<const R: usize, const C: usize> {
 struct Place {
     /// The names in scope, as bits.
     scope: u16,
-    /// The names in the LOCK blocks of the thread around this place, as bits.
+    /// The names in the LOCK blocks of the thread around this place, as written and as bits.
     nest: u16,
+    /// The root of the name held.
     holder: u8,
     thread: u8,
     /// Whether the block is a first alternative.
@@ -302,7 +324,8 @@ fn read_body<const R: usize, const C: usize>(
             first: false,
         },
     };
-    let (mut news, mut forks) = (0, 0);
+    let (mut locals, mut forks) = (0, 0);
+    let mut roots = Roots::NEW;
     loop {
         match reader.byte(section, refusal::NO_CODE)? {
             code::END => {
@@ -315,11 +338,11 @@ fn read_body<const R: usize, const C: usize>(
                 reader.close(&outside);
             }
             code::NEW => {
-                if news == MAX_NEW {
+                if locals == MAX_LOCALS {
                     return Err(refusal::TOO_MANY);
                 }
-                news += 1;
-                reader.here.scope |= 1 << (parameters + news);
+                locals += 1;
+                reader.here.scope |= 1 << (parameters + locals);
             }
             code::LOCK => {
                 let (held, thread) = (reader.here.holder, reader.here.thread);
@@ -327,11 +350,12 @@ fn read_body<const R: usize, const C: usize>(
                 let name = reader.name(section)?;
                 // A name in the nest is passed over: inside the block all is as outside it.
                 if reader.here.nest >> name & 1 == 0 {
+                    let root = roots.of(name);
                     if held != NOTHING {
-                        body.record(thread as usize, held as usize, 1 << name);
+                        body.record(thread as usize, held as usize, 1 << root);
                     }
                     reader.here.nest |= 1 << name;
-                    reader.here.holder = name;
+                    reader.here.holder = root;
                 }
             }
             code::FORK => {
@@ -363,10 +387,20 @@ fn read_body<const R: usize, const C: usize>(
                     calls.push(call);
                 }
             }
+            code::MIRROR => {
+                if locals == MAX_LOCALS {
+                    return Err(refusal::TOO_MANY);
+                }
+                let of = reader.name(section)?;
+                locals += 1;
+                reader.here.scope |= 1 << (parameters + locals);
+                roots.mirror(parameters + locals, of);
+            }
             _ => return Err(refusal::BAD_CODE),
         }
     }
-    body.names += news;
+    body.names += locals;
+    body.roots = roots;
     body.after_calls = calls.len as u16;
     Ok(reader.at)
 }
@@ -516,7 +550,9 @@ fn take_row(body: &mut Body, call: &Call, names: &[u8], row: Row) -> bool {
     // What the names 0 to 7 of the called routine stand for.
     let mut renamed = [NOTHING; ROW_SIDE];
     renamed[0] = call.holder;
-    renamed[1..=names.len()].copy_from_slice(names);
+    for (parameter, &name) in renamed[1..].iter_mut().zip(names) {
+        *parameter = body.roots.of(name);
+    }
     take_pairs(body, call.thread as usize, &renamed, row.own)
         | take_pairs(body, UNKNOWN, &renamed, row.unknown)
         | take_pairs(body, SEVERAL, &renamed, row.several)

@@ -3,8 +3,10 @@
 //! A frame is the model buffer's length and the table's length, two bytes each,
 //! low byte first, and the table's bytes.
 
-use crate::cases::{limits, rules, worked};
-use crate::generate::{self, boundaries, of_kind, Kind, Rng};
+use crate::cases::{limits_without_mirrors, mirror_limits, Limit};
+use crate::cases::{mirror_rules, rules_without_mirrors, worked, Case};
+use crate::generate::{self, of_kind, Boundary, Kind, Rng};
+use crate::generate::{boundaries_without_mirrors, mirror_boundaries};
 use crate::limits::{MAX_ROUTINES, ROW_BYTES};
 use crate::listing_with;
 
@@ -18,7 +20,7 @@ pub struct Frame {
 /// The seed of the random tables among the fixed frames.
 const SEED: u64 = 1;
 
-/// How many random tables there are of each kind.
+/// How many random tables there are of each kind without mirrors.
 const RANDOM: [(Kind, usize); 9] = [
     (Kind::Small, 240),
     (Kind::Deep, 40),
@@ -31,7 +33,14 @@ const RANDOM: [(Kind, usize); 9] = [
     (Kind::Mixed, 120),
 ];
 
-/// Random frames alone take at most so many bytes. The program reads 262,144.
+/// How many random tables there are of each kind with mirrors.
+const RANDOM_MIRRORS: [(Kind, usize); 3] = [
+    (Kind::Mirrors, 100),
+    (Kind::LargeMirrors, 6),
+    (Kind::BadMirrors, 90),
+];
+
+/// Frames take at most so many bytes. The program reads 262,144.
 const ROOM: usize = 240_000;
 
 /// Bytes of a frame before the table: two lengths of two bytes.
@@ -40,28 +49,48 @@ const LENGTHS: usize = 4;
 /// A boundary table that is longer than this is left to `compare`.
 const MODERATE: usize = 600;
 
-/// The frames, always the same ones.
+/// The frames, always the same ones: first those without mirrors, then those with.
 pub fn all() -> Vec<Frame> {
+    let mut rng = Rng::new(SEED);
+    let cases = worked().into_iter().chain(rules_without_mirrors());
+    let mut frames = fixed(
+        limits_without_mirrors(),
+        cases.collect(),
+        boundaries_without_mirrors(),
+    );
+    frames.extend(random_of(&mut rng, &RANDOM));
+    frames.extend(fixed(mirror_limits(), mirror_rules(), mirror_boundaries()));
+    frames.extend(random_of(&mut rng, &RANDOM_MIRRORS));
+    frames
+}
+
+/// Frames of tables that are not random.
+fn fixed(limits: Vec<Limit>, cases: Vec<Case>, boundaries: Vec<Boundary>) -> Vec<Frame> {
     let mut frames = Vec::new();
-    for case in limits() {
+    for case in limits {
         frames.push(Frame {
             buffer: case.buffer,
             table: case.table,
         });
     }
-    for case in worked().into_iter().chain(rules()) {
+    for case in cases {
         frames.extend(with_each_buffer(&case.table));
     }
-    for boundary in boundaries() {
+    for boundary in boundaries {
         if boundary.table.len() <= MODERATE {
             frames.extend(with_each_buffer(&boundary.table));
         }
     }
-    let mut rng = Rng::new(SEED);
-    for (kind, count) in RANDOM {
+    frames
+}
+
+/// Frames of so many random tables of each kind.
+fn random_of(rng: &mut Rng, kinds: &[(Kind, usize)]) -> Vec<Frame> {
+    let mut frames = Vec::new();
+    for &(kind, count) in kinds {
         for _ in 0..count {
-            let table = of_kind(&mut rng, kind);
-            frames.push(with_some_buffer(&mut rng, table));
+            let table = of_kind(rng, kind);
+            frames.push(with_some_buffer(rng, table));
         }
     }
     frames
@@ -199,6 +228,24 @@ mod tests {
         assert!(changed >= 80, "{changed}");
     }
 
+    #[test]
+    fn frames_meet_what_mirrors_change() {
+        let (mut mirrors, mut changed) = (0, 0);
+        for frame in all() {
+            let Ok(table) = read(&frame.table) else {
+                continue;
+            };
+            mirrors += usize::from(table.mirrors() > 0);
+            let [with, without] = [Rules::InForce, Rules::MirrorsApart].map(|rules| {
+                let mut buffer = vec![0; frame.buffer];
+                (analyse_by(rules, &frame.table, &mut buffer), buffer)
+            });
+            changed += usize::from(with != without);
+        }
+        assert!(mirrors >= 200, "{mirrors}");
+        assert!(changed >= 80, "{changed}");
+    }
+
     /// What the share of a frame shows, and in which other readings the percentage, and so the
     /// line, would be another.
     #[derive(Clone, Copy)]
@@ -290,7 +337,7 @@ mod tests {
     #[test]
     fn frames_are_not_too_many() {
         let frames = all();
-        assert!(encode(&frames).len() < 200_000);
+        assert!(encode(&frames).len() <= ROOM);
         assert!(listings(&frames).len() < 600_000);
     }
 }

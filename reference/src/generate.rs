@@ -1,6 +1,8 @@
 //! Tables to try: boundary tables with their outcome, and seeded random ones.
 
-use crate::limits::{code, refusal, MAX_FORK, MAX_NEW, MAX_OPEN};
+use std::ops::Range;
+
+use crate::limits::{code, refusal, MAX_FORK, MAX_LOCALS, MAX_OPEN};
 use crate::limits::{MAX_PARAMETERS, MAX_ROUTINES, MAX_SECTION};
 
 /// A small generator of numbers (splitmix64): one seed, one sequence.
@@ -81,9 +83,15 @@ pub enum Kind {
     /// Up to 64 routines: some that calls reach and some not, some with a ring and some
     /// without.
     Mixed,
+    /// As `Small`, `Deep`, `Wide`, `Tangle` or `Nested`, with mirrors.
+    Mirrors,
+    /// As `Mixed` or `Full`, with mirrors.
+    LargeMirrors,
+    /// As `Mirrors`, but damaged, or with names out of scope and too many locals.
+    BadMirrors,
 }
 
-pub const KINDS: [(Kind, &str); 9] = [
+pub const KINDS: [(Kind, &str); 12] = [
     (Kind::Small, "small"),
     (Kind::Deep, "deep"),
     (Kind::Wide, "wide"),
@@ -93,21 +101,27 @@ pub const KINDS: [(Kind, &str); 9] = [
     (Kind::Full, "full"),
     (Kind::Nested, "nested"),
     (Kind::Mixed, "mixed"),
+    (Kind::Mirrors, "mirrors"),
+    (Kind::LargeMirrors, "large with mirrors"),
+    (Kind::BadMirrors, "bad with mirrors"),
 ];
 
 /// Table number `index` of a seed, with its kind.
 pub fn random(seed: u64, index: u64) -> (Kind, Vec<u8>) {
     let mut rng = Rng::indexed(seed, index);
     let kind = match rng.below(100) {
-        0..=16 => Kind::Small,
-        17..=26 => Kind::Mixed,
-        27..=34 => Kind::Deep,
-        35..=40 => Kind::Wide,
-        41..=47 => Kind::Tangle,
-        48..=69 => Kind::Nested,
-        70..=89 => Kind::Damaged,
-        90..=98 => Kind::Arbitrary,
-        _ => Kind::Full,
+        0..=6 => Kind::Small,
+        7..=11 => Kind::Mixed,
+        12..=15 => Kind::Deep,
+        16..=18 => Kind::Wide,
+        19..=22 => Kind::Tangle,
+        23..=34 => Kind::Nested,
+        35..=43 => Kind::Damaged,
+        44..=48 => Kind::Arbitrary,
+        49 => Kind::Full,
+        50..=85 => Kind::Mirrors,
+        86..=90 => Kind::LargeMirrors,
+        _ => Kind::BadMirrors,
     };
     let table = of_kind(&mut rng, kind);
     (kind, table)
@@ -116,16 +130,33 @@ pub fn random(seed: u64, index: u64) -> (Kind, Vec<u8>) {
 /// A random table of one kind.
 pub fn of_kind(rng: &mut Rng, kind: Kind) -> Vec<u8> {
     match kind {
-        Kind::Small => small(rng),
-        Kind::Deep => deep(rng),
-        Kind::Wide => wide(rng),
-        Kind::Tangle => tangle(rng),
+        Kind::Small => small(rng, Locals::New),
+        Kind::Deep => deep(rng, Locals::New),
+        Kind::Wide => wide(rng, Locals::New),
+        Kind::Tangle => tangle(rng, Locals::New),
         Kind::Damaged => damaged(rng),
         Kind::Arbitrary => arbitrary(rng),
-        Kind::Full => full(rng),
-        Kind::Nested => nested(rng),
-        Kind::Mixed => mixed(rng),
+        Kind::Full => full(rng, Locals::New),
+        Kind::Nested => nested(rng, Locals::New),
+        Kind::Mixed => mixed(rng, Locals::New),
+        Kind::Mirrors => mirrors(rng),
+        Kind::LargeMirrors => large_mirrors(rng),
+        Kind::BadMirrors => bad_mirrors(rng),
     }
+}
+
+/// What the locals of a random table are. With `New` no number is drawn for mirrors, so
+/// that tables without them do not depend on how those with them are made.
+#[derive(Clone, Copy, PartialEq, Eq)]
+enum Locals {
+    /// NEW alone.
+    New,
+    /// NEW and MIRROR.
+    Mirrors,
+    /// The same, and more than there may be.
+    TooMany,
+    /// The same, and names out of scope.
+    OutOfScope,
 }
 
 /// How likely each item is in a random body, and how far the body may go.
@@ -141,10 +172,56 @@ struct Style {
     fill: bool,
     /// NEW items at the head of routine 0, which has no parameters.
     head: usize,
-    max_new: u8,
+    max_locals: u8,
     max_fork: u8,
     max_open: usize,
     nests: Nests,
+    mirrors: Mirrors,
+}
+
+/// How many mirrors a random body has, and how sound they are.
+struct Mirrors {
+    /// How likely MIRROR is, beside the other items.
+    weight: usize,
+    /// MIRROR items at the head of each body, behind the NEW items there.
+    head: usize,
+    /// In a hundred: how often a name is one out of scope, where a local is.
+    stray: usize,
+}
+
+impl Mirrors {
+    const NONE: Mirrors = Mirrors {
+        weight: 0,
+        head: 0,
+        stray: 0,
+    };
+}
+
+impl Style {
+    /// The style with locals of this sort.
+    fn with(self, rng: &mut Rng, locals: Locals) -> Style {
+        let (weight, head, stray, max_locals) = match locals {
+            Locals::New => return self,
+            Locals::Mirrors => ((1, 4), (0, 3), 0, rng.between(5, MAX_LOCALS as usize) as u8),
+            Locals::TooMany => ((1, 4), (2, 9), 0, MAX_LOCALS + 2),
+            Locals::OutOfScope => ((3, 8), (0, 1), 6, MAX_LOCALS),
+        };
+        let mirrors = Mirrors {
+            weight: rng.between(weight.0, weight.1),
+            head: rng.between(head.0, head.1),
+            stray,
+        };
+        let nests = match self.nests {
+            Nests::Rising(often) if rng.chance(50) => Nests::RisingByLock(often),
+            as_it_is => as_it_is,
+        };
+        Style {
+            mirrors,
+            max_locals,
+            nests,
+            ..self
+        }
+    }
 }
 
 /// How a random LOCK comes by its name.
@@ -156,9 +233,11 @@ enum Nests {
     /// At least so many times in a hundred one that its thread holds in the body; else one
     /// above all that it holds there, or the highest of those again.
     Rising(usize),
+    /// The same by the names that mirrors lead back to, each lock by any of its names.
+    RisingByLock(usize),
 }
 
-/// Writes one valid random body.
+/// Writes one random body, valid unless its style has too many locals or stray names.
 struct Writer<'a> {
     rng: &'a mut Rng,
     style: &'a Style,
@@ -169,14 +248,16 @@ struct Writer<'a> {
     locks: Vec<u8>,
     /// How many of them are outside the fork of the place.
     outside_fork: usize,
-    news: u8,
+    locals: u8,
+    /// What each name from 0 on leads back to.
+    roots: Vec<u8>,
     forks: u8,
     /// Bytes that may still be written, closing bytes already set aside.
     room: usize,
     out: Vec<u8>,
 }
 
-/// A valid body of at most `room` bytes (at least 1) for routine `routine`.
+/// A body of at most `room` bytes (at least 1) for routine `routine`.
 fn body(rng: &mut Rng, style: &Style, counts: &[u8], routine: usize, room: usize) -> Vec<u8> {
     let parameters = counts[routine];
     let mut writer = Writer {
@@ -187,7 +268,8 @@ fn body(rng: &mut Rng, style: &Style, counts: &[u8], routine: usize, room: usize
         scope: (1..=parameters).collect(),
         locks: Vec::new(),
         outside_fork: 0,
-        news: 0,
+        locals: 0,
+        roots: (0..=parameters).collect(),
         forks: 0,
         room: room - 1,
         out: Vec::new(),
@@ -196,6 +278,9 @@ fn body(rng: &mut Rng, style: &Style, counts: &[u8], routine: usize, room: usize
         for _ in 0..style.head {
             writer.new_item();
         }
+    }
+    for _ in 0..style.mirrors.head {
+        writer.mirror_item();
     }
     writer.items(0);
     writer.out.push(code::END);
@@ -221,7 +306,8 @@ impl Writer<'_> {
     fn item(&mut self, depth: usize) {
         let style = self.style;
         let may_open = depth < style.max_open;
-        let all = style.new + style.lock + style.fork + style.choice + style.call;
+        let mirror = style.mirrors.weight;
+        let all = style.new + style.lock + style.fork + style.choice + style.call + mirror;
         let mut drawn = self.rng.below(all);
         let mut falls_to = |weight: usize| {
             let here = drawn < weight;
@@ -256,6 +342,8 @@ impl Writer<'_> {
                 self.items(depth + 1);
                 self.out.push(code::END);
             }
+        } else if falls_to(mirror) {
+            self.mirror_item();
         } else {
             // Routines with parameters are drawn more often.
             let mut routine = self.rng.below(self.counts.len());
@@ -274,11 +362,45 @@ impl Writer<'_> {
     }
 
     fn new_item(&mut self) {
-        if self.take(1, self.news < self.style.max_new) {
-            self.news += 1;
-            self.scope.push(self.parameters + self.news);
+        if self.take(1, self.locals < self.style.max_locals) {
             self.out.push(code::NEW);
+            self.local(self.parameters + self.locals + 1);
         }
+    }
+
+    fn mirror_item(&mut self) {
+        let allowed = self.locals < self.style.max_locals && !self.scope.is_empty();
+        if self.take(2, allowed) {
+            let name = self.mirrored();
+            self.out.extend([code::MIRROR, name]);
+            self.local(self.root(name));
+        }
+    }
+
+    /// The next local is there and leads back to this name.
+    fn local(&mut self, root: u8) {
+        self.locals += 1;
+        self.scope.push(self.parameters + self.locals);
+        self.roots.push(root);
+    }
+
+    /// A name for a MIRROR.
+    fn mirrored(&mut self) -> u8 {
+        // One local too many has a name out of scope half of the time.
+        if self.locals >= MAX_LOCALS && self.rng.chance(50) {
+            let numbers = self.out_of_scope();
+            return numbers[self.rng.below(numbers.len())];
+        }
+        // The newest name at times, so that mirrors stand on mirrors.
+        match self.scope.last() {
+            Some(&newest) if self.rng.chance(30) => newest,
+            _ => self.name(),
+        }
+    }
+
+    /// What a name leads back to, which may be one that is not there yet.
+    fn root(&self, name: u8) -> u8 {
+        self.roots.get(name as usize).copied().unwrap_or(name)
     }
 
     /// Sets bytes aside for an item that may stand here; without success, and
@@ -290,30 +412,81 @@ impl Writer<'_> {
     }
 
     fn name(&mut self) -> u8 {
+        let stray = self.style.mirrors.stray;
+        if stray > 0 && self.rng.chance(stray) {
+            let numbers = self.out_of_scope();
+            // Name 0 and the next local are always there.
+            if numbers.len() > 2 || self.rng.chance(10) {
+                return numbers[self.rng.below(numbers.len())];
+            }
+        }
         self.scope[self.rng.below(self.scope.len())]
+    }
+
+    /// The numbers that are no names here: 0, the next local, and locals of closed blocks.
+    fn out_of_scope(&self) -> Vec<u8> {
+        let next = self.parameters + self.locals + 1;
+        (0..=next)
+            .filter(|number| !self.scope.contains(number))
+            .collect()
     }
 
     /// A name for a LOCK.
     fn lock_name(&mut self) -> u8 {
-        let (around, often) = match self.style.nests {
-            Nests::Any => return self.name(),
-            Nests::Again(often) => (&self.locks[..], often),
-            Nests::Rising(often) => (&self.locks[self.outside_fork..], often),
-        };
-        if !around.is_empty() && self.rng.chance(often) {
-            return around[self.rng.below(around.len())];
+        match self.style.nests {
+            Nests::Any => self.name(),
+            Nests::Again(often) => match self.held_again(0, often) {
+                Some(name) => self.either(name),
+                None => self.name(),
+            },
+            Nests::Rising(often) => self.rising_name(often, |_, name| name),
+            Nests::RisingByLock(often) => {
+                let name = self.rising_name(often, Writer::root);
+                self.either(name)
+            }
         }
-        let least = match self.style.nests {
-            Nests::Rising(_) => around.iter().copied().max().unwrap_or(0),
-            _ => 0,
-        };
-        // A name that is too low gives way to the highest held, taken again.
-        self.name().max(least)
+    }
+
+    /// So many times in a hundred a name of the open LOCK blocks, but for the first ones.
+    fn held_again(&mut self, but: usize, often: usize) -> Option<u8> {
+        let around = &self.locks[but..];
+        if around.is_empty() || !self.rng.chance(often) {
+            return None;
+        }
+        Some(around[self.rng.below(around.len())])
+    }
+
+    /// A name that the thread holds, or one that is not below those by its height.
+    fn rising_name(&mut self, often: usize, height: fn(&Self, u8) -> u8) -> u8 {
+        if let Some(name) = self.held_again(self.outside_fork, often) {
+            return name;
+        }
+        let drawn = self.name();
+        let around = self.locks[self.outside_fork..].iter().copied();
+        match around.max_by_key(|&name| height(self, name)) {
+            // A name that is too low gives way to the highest held, taken again.
+            Some(highest) if height(self, drawn) < height(self, highest) => highest,
+            _ => drawn,
+        }
+    }
+
+    /// Where there are mirrors, half of the time any name of the same lock.
+    fn either(&mut self, name: u8) -> u8 {
+        if self.style.mirrors.weight == 0 || self.rng.chance(50) {
+            return name;
+        }
+        let mut names = self.scope.clone();
+        names.retain(|&other| self.root(other) == self.root(name));
+        if names.contains(&name) {
+            names[self.rng.below(names.len())]
+        } else {
+            name
+        }
     }
 }
 
-/// A table of valid bodies, with the room given for each.
-fn valid(rng: &mut Rng, style: &Style, counts: &[u8], rooms: &[usize]) -> Vec<u8> {
+/// A table of random bodies, with the room given for each.
+fn written(rng: &mut Rng, style: &Style, counts: &[u8], rooms: &[usize]) -> Vec<u8> {
     let mut section = Vec::new();
     for (routine, &room) in rooms.iter().enumerate() {
         section.extend(body(rng, style, counts, routine, room));
@@ -331,7 +504,7 @@ fn counts(rng: &mut Rng, routines: usize, most: usize) -> Vec<u8> {
     counts
 }
 
-fn small(rng: &mut Rng) -> Vec<u8> {
+fn small(rng: &mut Rng, locals: Locals) -> Vec<u8> {
     let style = Style {
         new: 1,
         lock: rng.between(6, 16),
@@ -341,19 +514,21 @@ fn small(rng: &mut Rng) -> Vec<u8> {
         stop: rng.between(20, 50),
         fill: rng.chance(80),
         head: rng.between(2, 4),
-        max_new: rng.between(2, 4) as u8,
+        max_locals: rng.between(2, 4) as u8,
         max_fork: rng.between(1, 4) as u8,
         max_open: rng.between(3, 6),
         nests: Nests::Any,
-    };
+        mirrors: Mirrors::NONE,
+    }
+    .with(rng, locals);
     let routines = rng.between(1, 4);
     let most = rng.between(2, 3);
     let counts = counts(rng, routines, most);
     let rooms: Vec<usize> = counts.iter().map(|_| rng.between(12, 64)).collect();
-    valid(rng, &style, &counts, &rooms)
+    written(rng, &style, &counts, &rooms)
 }
 
-fn deep(rng: &mut Rng) -> Vec<u8> {
+fn deep(rng: &mut Rng, locals: Locals) -> Vec<u8> {
     let style = Style {
         new: 1,
         lock: rng.between(4, 12),
@@ -363,18 +538,20 @@ fn deep(rng: &mut Rng) -> Vec<u8> {
         stop: rng.between(0, 12),
         fill: rng.chance(50),
         head: rng.between(1, 3),
-        max_new: MAX_NEW,
+        max_locals: MAX_LOCALS,
         max_fork: MAX_FORK,
         max_open: MAX_OPEN,
         nests: Nests::Any,
-    };
+        mirrors: Mirrors::NONE,
+    }
+    .with(rng, locals);
     let routines = rng.between(1, 3);
     let counts = counts(rng, routines, 3);
     let rooms: Vec<usize> = counts.iter().map(|_| rng.between(20, 120)).collect();
-    valid(rng, &style, &counts, &rooms)
+    written(rng, &style, &counts, &rooms)
 }
 
-fn wide(rng: &mut Rng) -> Vec<u8> {
+fn wide(rng: &mut Rng, locals: Locals) -> Vec<u8> {
     let style = Style {
         new: 3,
         lock: rng.between(4, 12),
@@ -384,27 +561,29 @@ fn wide(rng: &mut Rng) -> Vec<u8> {
         stop: rng.between(2, 15),
         fill: rng.chance(50),
         head: rng.between(0, 8),
-        max_new: MAX_NEW,
+        max_locals: MAX_LOCALS,
         max_fork: MAX_FORK,
         max_open: rng.between(2, MAX_OPEN),
         nests: Nests::Any,
-    };
+        mirrors: Mirrors::NONE,
+    }
+    .with(rng, locals);
     let routines = rng.between(1, 8);
     let counts = counts(rng, routines, MAX_PARAMETERS as usize);
     let rooms: Vec<usize> = counts.iter().map(|_| rng.between(20, 200)).collect();
-    valid(rng, &style, &counts, &rooms)
+    written(rng, &style, &counts, &rooms)
 }
 
-fn tangle(rng: &mut Rng) -> Vec<u8> {
+fn tangle(rng: &mut Rng, locals: Locals) -> Vec<u8> {
     // Routine 0 calls each of the others once, so all names meet.
     let routines = rng.between(1, 3);
     let most = rng.between(2, MAX_PARAMETERS as usize);
     let counts = counts(rng, routines, most);
     let mut section = Vec::new();
     for (routine, &parameters) in counts.iter().enumerate() {
-        let news = rng.between(2, MAX_NEW as usize) as u8;
-        let names = (parameters + news) as usize;
-        section.extend(vec![code::NEW; news as usize]);
+        let names = parameters + rng.between(2, MAX_LOCALS as usize) as u8;
+        section.extend(head(rng, parameters..names, locals));
+        let names = names as usize;
         let mut forks = 0;
         for _ in 0..rng.between(1, 12) {
             let forked = forks < MAX_FORK && rng.chance(60);
@@ -429,7 +608,21 @@ fn tangle(rng: &mut Rng) -> Vec<u8> {
     assemble(&counts, &section)
 }
 
-fn full(rng: &mut Rng) -> Vec<u8> {
+/// Locals at the head of a body, each behind so many names. With mirrors, half of them are
+/// MIRROR of any name before.
+fn head(rng: &mut Rng, before: Range<u8>, locals: Locals) -> Vec<u8> {
+    let mut items = Vec::new();
+    for names in before {
+        if locals != Locals::New && names > 0 && rng.chance(50) {
+            items.extend([code::MIRROR, rng.between(1, names as usize) as u8]);
+        } else {
+            items.push(code::NEW);
+        }
+    }
+    items
+}
+
+fn full(rng: &mut Rng, locals: Locals) -> Vec<u8> {
     let style = Style {
         new: rng.between(1, 3),
         lock: rng.between(4, 12),
@@ -439,11 +632,13 @@ fn full(rng: &mut Rng) -> Vec<u8> {
         stop: rng.between(5, 30),
         fill: true,
         head: rng.between(0, 8),
-        max_new: MAX_NEW,
+        max_locals: MAX_LOCALS,
         max_fork: MAX_FORK,
         max_open: rng.between(2, MAX_OPEN),
         nests: Nests::Any,
-    };
+        mirrors: Mirrors::NONE,
+    }
+    .with(rng, locals);
     let routines = if rng.chance(75) {
         MAX_ROUTINES
     } else {
@@ -467,7 +662,7 @@ fn full(rng: &mut Rng) -> Vec<u8> {
     assemble(&counts, &section)
 }
 
-fn nested(rng: &mut Rng) -> Vec<u8> {
+fn nested(rng: &mut Rng, locals: Locals) -> Vec<u8> {
     let often = rng.between(20, 70);
     let nests = if rng.chance(75) {
         Nests::Rising(often)
@@ -483,19 +678,21 @@ fn nested(rng: &mut Rng) -> Vec<u8> {
         stop: rng.between(5, 35),
         fill: rng.chance(80),
         head: rng.between(3, 5),
-        max_new: rng.between(3, 5) as u8,
+        max_locals: rng.between(3, 5) as u8,
         max_fork: rng.between(1, 4) as u8,
         max_open: rng.between(5, MAX_OPEN),
         nests,
-    };
+        mirrors: Mirrors::NONE,
+    }
+    .with(rng, locals);
     let routines = rng.between(1, 4);
     let most = rng.between(3, 5);
     let counts = counts(rng, routines, most);
     let rooms: Vec<usize> = counts.iter().map(|_| rng.between(40, 140)).collect();
-    valid(rng, &style, &counts, &rooms)
+    written(rng, &style, &counts, &rooms)
 }
 
-fn mixed(rng: &mut Rng) -> Vec<u8> {
+fn mixed(rng: &mut Rng, locals: Locals) -> Vec<u8> {
     let routines = match rng.below(10) {
         0 => MAX_ROUTINES,
         1 => rng.between(10, MAX_ROUTINES),
@@ -508,7 +705,7 @@ fn mixed(rng: &mut Rng) -> Vec<u8> {
     let rings = [0, 10, 30, 60, 90, 100][rng.below(6)];
     let mut section = Vec::new();
     for (routine, callees) in callees.iter().enumerate() {
-        section.extend(mixed_body(rng, &counts, routine, callees, rings));
+        section.extend(mixed_body(rng, &counts, routine, callees, rings, locals));
     }
     assemble(&counts, &section)
 }
@@ -550,18 +747,30 @@ fn callees(rng: &mut Rng, routines: usize) -> Vec<Vec<usize>> {
 }
 
 /// A body in which two threads take two locks in opposite order, so many times in a
-/// hundred, else in one order or not at all. Then it calls these routines.
+/// hundred, else in one order or not at all. Then it calls these routines. With mirrors,
+/// the one thread takes the locks by their second names.
 fn mixed_body(
     rng: &mut Rng,
     counts: &[u8],
     routine: usize,
     callees: &[usize],
     rings: usize,
+    locals: Locals,
 ) -> Vec<u8> {
     let mut body = vec![code::NEW; 2];
-    let names = counts[routine] + 2;
+    let mut names = counts[routine] + 2;
     let one = rng.between(1, names as usize) as u8;
     let other = one % names + 1;
+    let (mut second_one, mut second_other) = (one, other);
+    if locals != Locals::New {
+        // One has a third name, by way of its second.
+        let first_mirror = names + 1;
+        for name in [one, other, first_mirror] {
+            body.extend([code::MIRROR, name]);
+            names += 1;
+        }
+        (second_one, second_other) = (first_mirror + 2, first_mirror + 1);
+    }
     let opposite = rng.chance(rings);
     let mut forks = 0;
     if opposite || rng.chance(20) {
@@ -570,9 +779,9 @@ fn mixed_body(
         body.extend(two_locks(one, other));
         body.push(code::END);
         body.extend(if opposite {
-            two_locks(other, one)
+            two_locks(second_other, second_one)
         } else {
-            two_locks(one, other)
+            two_locks(second_one, second_other)
         });
     }
     for &callee in callees {
@@ -600,7 +809,43 @@ fn two_locks(outer: u8, inner: u8) -> [u8; 6] {
     [code::LOCK, outer, code::LOCK, inner, code::END, code::END]
 }
 
-/// Changes a valid table in one to three places.
+fn mirrors(rng: &mut Rng) -> Vec<u8> {
+    if rng.chance(10) {
+        tangle(rng, Locals::Mirrors)
+    } else {
+        styled(rng, Locals::Mirrors)
+    }
+}
+
+/// A table of any of the styles that are not large.
+fn styled(rng: &mut Rng, locals: Locals) -> Vec<u8> {
+    match rng.below(10) {
+        0..=2 => small(rng, locals),
+        3 => deep(rng, locals),
+        4 => wide(rng, locals),
+        _ => nested(rng, locals),
+    }
+}
+
+fn large_mirrors(rng: &mut Rng) -> Vec<u8> {
+    if rng.chance(90) {
+        mixed(rng, Locals::Mirrors)
+    } else {
+        full(rng, Locals::Mirrors)
+    }
+}
+
+fn bad_mirrors(rng: &mut Rng) -> Vec<u8> {
+    match rng.below(10) {
+        0..=3 => {
+            let table = mirrors(rng);
+            damage(rng, table)
+        }
+        4 | 5 => styled(rng, Locals::TooMany),
+        _ => styled(rng, Locals::OutOfScope),
+    }
+}
+
 fn damaged(rng: &mut Rng) -> Vec<u8> {
     let kind = [
         Kind::Small,
@@ -609,7 +854,12 @@ fn damaged(rng: &mut Rng) -> Vec<u8> {
         Kind::Deep,
         Kind::Wide,
     ][rng.below(5)];
-    let mut table = of_kind(rng, kind);
+    let table = of_kind(rng, kind);
+    damage(rng, table)
+}
+
+/// Changes a valid table in one to three places.
+fn damage(rng: &mut Rng, mut table: Vec<u8>) -> Vec<u8> {
     for _ in 0..rng.between(1, 3) {
         // The head is short, so it is chosen outright at times.
         let head = (table.first().copied().unwrap_or(0) as usize + 3).min(table.len());
@@ -704,8 +954,307 @@ fn joined(parts: &[&[u8]]) -> Vec<u8> {
     parts.concat()
 }
 
+/// A table of one routine.
+fn one(section: &[u8]) -> Vec<u8> {
+    assemble(&[0], section)
+}
+
+/// A table of a routine 0 that does nothing, and a routine 1 with k parameters.
+fn two(k: u8, section: &[u8]) -> Vec<u8> {
+    assemble(&[0, k], &joined(&[&[code::END], section]))
+}
+
 /// Tables on both sides of every limit, and tables to which two refusals apply.
 pub fn boundaries() -> Vec<Boundary> {
+    let mut all = boundaries_without_mirrors();
+    all.extend(mirror_boundaries());
+    all
+}
+
+/// Those about MIRROR.
+pub fn mirror_boundaries() -> Vec<Boundary> {
+    use code::*;
+
+    let most_forks = usize::from(MAX_FORK);
+    let mirrors = |count| repeated(&[MIRROR, 1], count);
+    let mut all = Vec::new();
+    let mut put = |what: &'static str, table: Vec<u8>, refusal: Option<u32>| {
+        all.push(Boundary {
+            what,
+            table,
+            refusal,
+        });
+    };
+
+    // The code, and where the section ends.
+    put("code 7 with a name", two(1, &[MIRROR, 1, END]), None);
+    put(
+        "code 8 behind a MIRROR",
+        two(1, &[MIRROR, 1, 8]),
+        Some(refusal::BAD_CODE),
+    );
+    put(
+        "code 8 behind 8 locals",
+        two(1, &joined(&[&mirrors(8), &[8]])),
+        Some(refusal::BAD_CODE),
+    );
+    put(
+        "a section that ends with a MIRROR's name",
+        two(1, &[MIRROR, 1]),
+        Some(refusal::NO_CODE),
+    );
+    put(
+        "a section that ends with MIRROR",
+        two(1, &[MIRROR]),
+        Some(refusal::BAD_NAME),
+    );
+    put(
+        "4,096 body bytes that end with MIRROR",
+        one(&joined(&[&repeated(&[CALL, 0], 2047), &[NEW, MIRROR]])),
+        Some(refusal::BAD_NAME),
+    );
+    put(
+        "END behind a MIRROR in a first alternative",
+        two(1, &[CHOICE, MIRROR, 1, END, END]),
+        Some(refusal::MISPLACED),
+    );
+    put(
+        "a MIRROR after the last body",
+        two(1, &[END, MIRROR, 1]),
+        Some(refusal::BYTES_LEFT),
+    );
+
+    // How many.
+    put("8 MIRROR", two(1, &joined(&[&mirrors(8), &[END]])), None);
+    put(
+        "9 MIRROR",
+        two(1, &joined(&[&mirrors(9), &[END]])),
+        Some(refusal::TOO_MANY),
+    );
+    put(
+        "4 NEW and 4 MIRROR by turns",
+        one(&joined(&[&repeated(&[NEW, MIRROR, 1], 4), &[END]])),
+        None,
+    );
+    put(
+        "4 NEW and 4 MIRROR by turns, and a NEW",
+        one(&joined(&[&repeated(&[NEW, MIRROR, 1], 4), &[NEW, END]])),
+        Some(refusal::TOO_MANY),
+    );
+    put(
+        "4 NEW and 4 MIRROR by turns, and a MIRROR",
+        one(&joined(&[
+            &repeated(&[NEW, MIRROR, 1], 4),
+            &[MIRROR, 1, END],
+        ])),
+        Some(refusal::TOO_MANY),
+    );
+    put(
+        "8 MIRROR and a NEW",
+        two(1, &joined(&[&mirrors(8), &[NEW, END]])),
+        Some(refusal::TOO_MANY),
+    );
+    put(
+        "8 NEW and a MIRROR",
+        one(&joined(&[&[NEW; 8], &[MIRROR, 1, END]])),
+        Some(refusal::TOO_MANY),
+    );
+    for (what, name) in [
+        ("a ninth local, a MIRROR of name 0", 0),
+        ("a ninth local, a MIRROR of its own name", 9),
+        ("a ninth local, a MIRROR of name 255", 255),
+    ] {
+        put(
+            what,
+            one(&joined(&[&[NEW; 8], &[MIRROR, name, END]])),
+            Some(refusal::TOO_MANY),
+        );
+    }
+    put(
+        "a ninth local, a MIRROR without a name byte",
+        one(&joined(&[&[NEW; 8], &[MIRROR]])),
+        Some(refusal::TOO_MANY),
+    );
+    put(
+        "an eighth local, a MIRROR of its own name",
+        one(&joined(&[&[NEW; 7], &[MIRROR, 8, END]])),
+        Some(refusal::BAD_NAME),
+    );
+    put(
+        "an eighth local, a MIRROR without a name byte",
+        one(&joined(&[&[NEW; 7], &[MIRROR]])),
+        Some(refusal::BAD_NAME),
+    );
+    put(
+        "9 MIRROR over two alternatives",
+        two(
+            1,
+            &joined(&[&[CHOICE], &mirrors(8), &[OTHER, MIRROR, 1, END, END]]),
+        ),
+        Some(refusal::TOO_MANY),
+    );
+    put(
+        "8 MIRROR in each of two routines",
+        assemble(
+            &[0, 1, 1],
+            &joined(&[&[END], &mirrors(8), &[END], &mirrors(8), &[END]]),
+        ),
+        None,
+    );
+    put(
+        "8 MIRROR and the most FORK",
+        two(
+            1,
+            &joined(&[&mirrors(8), &repeated(&[FORK, END], most_forks), &[END]]),
+        ),
+        None,
+    );
+    put(
+        "8 MIRROR and one FORK more than the most",
+        two(
+            1,
+            &joined(&[&mirrors(8), &repeated(&[FORK, END], most_forks + 1), &[END]]),
+        ),
+        Some(refusal::TOO_MANY),
+    );
+
+    // Depth, which a MIRROR does not add to.
+    let at_sixteen = |items: &[u8]| {
+        let open = repeated(&[LOCK, 1], 16);
+        two(1, &joined(&[&open, items, &repeated(&[END], 17)]))
+    };
+    put("8 MIRROR at depth 16", at_sixteen(&mirrors(8)), None);
+    put(
+        "9 MIRROR at depth 16",
+        at_sixteen(&mirrors(9)),
+        Some(refusal::TOO_MANY),
+    );
+    put(
+        "MIRROR of its own name at depth 16",
+        at_sixteen(&[MIRROR, 2]),
+        Some(refusal::BAD_NAME),
+    );
+    put(
+        "a seventeenth block that is a LOCK on a mirror",
+        at_sixteen(&[MIRROR, 1, LOCK, 2, END]),
+        Some(refusal::TOO_DEEP),
+    );
+
+    // The name.
+    for (what, name, refusal) in [
+        ("MIRROR of name 0", 0, Some(refusal::BAD_NAME)),
+        ("MIRROR of name 1", 1, None),
+        ("MIRROR of name k", 7, None),
+        ("MIRROR of name k + 1, its own", 8, Some(refusal::BAD_NAME)),
+        ("MIRROR of name 16", 16, Some(refusal::BAD_NAME)),
+        ("MIRROR of name 255", 255, Some(refusal::BAD_NAME)),
+    ] {
+        put(what, two(7, &[MIRROR, name, END]), refusal);
+    }
+    put(
+        "MIRROR of its own name where none is in scope",
+        one(&[MIRROR, 1, END]),
+        Some(refusal::BAD_NAME),
+    );
+    put(
+        "MIRROR of a local that comes later",
+        one(&[NEW, MIRROR, 3, NEW, END]),
+        Some(refusal::BAD_NAME),
+    );
+    put(
+        "a mirror before its MIRROR",
+        two(1, &[LOCK, 2, END, MIRROR, 1, END]),
+        Some(refusal::BAD_NAME),
+    );
+    put(
+        "MIRROR of a local after the block that holds it",
+        one(&[FORK, NEW, END, MIRROR, 1, END]),
+        Some(refusal::BAD_NAME),
+    );
+    put(
+        "MIRROR of a mirror after the block that holds it",
+        two(1, &[LOCK, 1, MIRROR, 1, END, MIRROR, 2, END]),
+        Some(refusal::BAD_NAME),
+    );
+    put(
+        "a mirror after the block that holds it",
+        two(1, &[FORK, MIRROR, 1, LOCK, 2, END, END, LOCK, 2, END, END]),
+        Some(refusal::BAD_NAME),
+    );
+    put(
+        "a mirror of the first alternative in the second",
+        two(1, &[CHOICE, MIRROR, 1, OTHER, LOCK, 2, END, END, END]),
+        Some(refusal::BAD_NAME),
+    );
+    put(
+        "MIRROR of a mirror of the first alternative in the second",
+        two(1, &[CHOICE, MIRROR, 1, OTHER, MIRROR, 2, END, END]),
+        Some(refusal::BAD_NAME),
+    );
+    put(
+        "a mirror of the second alternative after the choice",
+        two(1, &[CHOICE, OTHER, MIRROR, 1, END, LOCK, 2, END, END]),
+        Some(refusal::BAD_NAME),
+    );
+    put(
+        "a mirror outside a fork, used in it",
+        two(1, &[MIRROR, 1, FORK, LOCK, 2, END, END, END]),
+        None,
+    );
+    put(
+        "numbers of mirrors out of scope are not used again",
+        two(
+            1,
+            &[
+                CHOICE, MIRROR, 1, OTHER, NEW, MIRROR, 3, LOCK, 4, END, END, NEW, LOCK, 5, END, END,
+            ],
+        ),
+        None,
+    );
+    put(
+        "the number of a mirror out of scope",
+        two(
+            1,
+            &[CHOICE, MIRROR, 1, OTHER, END, MIRROR, 1, LOCK, 2, END, END],
+        ),
+        Some(refusal::BAD_NAME),
+    );
+    put(
+        "a mirror of the routine before",
+        assemble(&[0, 1, 1], &[END, MIRROR, 1, END, LOCK, 2, END, END]),
+        Some(refusal::BAD_NAME),
+    );
+    put(
+        "LOCK of name 15, a mirror",
+        two(
+            7,
+            &joined(&[&repeated(&[MIRROR, 7], 8), &[LOCK, 15, END, END]]),
+        ),
+        None,
+    );
+    put(
+        "LOCK of name 16, behind 8 mirrors",
+        two(
+            7,
+            &joined(&[&repeated(&[MIRROR, 7], 8), &[LOCK, 16, END, END]]),
+        ),
+        Some(refusal::BAD_NAME),
+    );
+    put(
+        "CALL with a mirror",
+        two(1, &[MIRROR, 1, CALL, 1, 2, END]),
+        None,
+    );
+    put(
+        "CALL with a mirror out of scope",
+        two(1, &[FORK, MIRROR, 1, END, CALL, 1, 2, END]),
+        Some(refusal::BAD_NAME),
+    );
+    all
+}
+
+/// Those without a MIRROR.
+pub fn boundaries_without_mirrors() -> Vec<Boundary> {
     use code::*;
 
     let most_forks = usize::from(MAX_FORK);
@@ -717,11 +1266,6 @@ pub fn boundaries() -> Vec<Boundary> {
             refusal,
         });
     };
-    // A table of one routine.
-    let one = |section: &[u8]| assemble(&[0], section);
-    // A table of a routine 0 that does nothing, and a routine 1 with k parameters.
-    let two = |k: u8, section: &[u8]| assemble(&[0, k], &joined(&[&[END], section]));
-
     // The head.
     put("no byte", vec![], Some(refusal::EMPTY));
     put("no routine", vec![0], Some(refusal::ROUTINE_COUNT));
@@ -863,11 +1407,11 @@ pub fn boundaries() -> Vec<Boundary> {
         assemble(&[0; 64], &repeated(&[END], 63)),
         Some(refusal::NO_CODE),
     );
-    put("code 7", one(&[7, END]), Some(refusal::BAD_CODE));
+    put("code 8", one(&[8, END]), Some(refusal::BAD_CODE));
     put("code 255", one(&[255]), Some(refusal::BAD_CODE));
     put(
-        "code 7 at depth 16",
-        two(1, &joined(&[&repeated(&[LOCK, 1], 16), &[7]])),
+        "code 8 at depth 16",
+        two(1, &joined(&[&repeated(&[LOCK, 1], 16), &[8]])),
         Some(refusal::BAD_CODE),
     );
 
@@ -1219,7 +1763,7 @@ mod tests {
     use crate::model::reached;
     use crate::table::{read, Block, Item, Table};
     use crate::{check, limits::READ_LIMIT};
-    use std::collections::BTreeSet;
+    use std::collections::{BTreeMap, BTreeSet};
 
     #[test]
     fn boundary_tables_come_out_as_said() {
@@ -1269,6 +1813,8 @@ mod tests {
                 Kind::Tangle,
                 Kind::Nested,
                 Kind::Mixed,
+                Kind::Mirrors,
+                Kind::LargeMirrors,
             ] {
                 let table = of_kind(&mut rng, kind);
                 assert!(check(&table).is_ok(), "{kind:?} {table:?}");
@@ -1291,13 +1837,13 @@ mod tests {
 
     #[test]
     fn random_tables_reach_every_depth_and_count() {
-        let (mut open, mut news, mut forks) = (0, 0, 0);
+        let (mut open, mut locals, mut forks) = (0, 0, 0);
         for index in 0..2000 {
             let Ok(table) = read(&random(1, index).1) else {
                 continue;
             };
             for routine in &table.routines {
-                let (mut depth, mut new, mut fork) = (0i32, 0, 0);
+                let (mut depth, mut local, mut fork) = (0i32, 0, 0);
                 for item in &routine.items {
                     match item {
                         Item::Lock { .. } | Item::Choice => depth += 1,
@@ -1305,17 +1851,17 @@ mod tests {
                             depth += 1;
                             fork += 1;
                         }
-                        Item::New => new += 1,
+                        Item::New | Item::Mirror { .. } => local += 1,
                         Item::End => depth -= 1,
                         Item::Other | Item::Call { .. } => {}
                     }
                     open = open.max(depth);
                 }
-                news = news.max(new);
+                locals = locals.max(local);
                 forks = forks.max(fork);
             }
         }
-        assert_eq!((open, news, forks), (16, 8, MAX_FORK));
+        assert_eq!((open, locals, forks), (16, MAX_LOCALS, MAX_FORK));
     }
 
     /// Where a table has a LOCK that its thread's nest passes over although another
@@ -1386,6 +1932,89 @@ mod tests {
         assert!(share(|nesting| nesting.second_alternative) >= 6);
         assert!(share(|nesting| nesting.fork_in_lock) >= 12);
         assert!(share(|nesting| nesting.name_of_parent) >= 15);
+    }
+
+    /// What an accepted table does with mirrors.
+    fn uses_of_mirrors(table: &Table) -> BTreeSet<&'static str> {
+        let mut uses = BTreeSet::new();
+        for routine in &table.routines {
+            let roots = routine.roots();
+            let root = |name: &u8| roots[*name as usize];
+            let is_mirror = |name: &u8| root(name) != *name;
+            let mut locals = 0;
+            let mut mirrors = 0;
+            routine.walk(|item, open| match item {
+                Item::New => locals += 1,
+                Item::Mirror { name } => {
+                    locals += 1;
+                    mirrors += 1;
+                    uses.insert("any");
+                    uses.extend(is_mirror(name).then_some("of a mirror"));
+                    uses.extend((*name <= routine.parameters).then_some("of a parameter"));
+                    uses.extend((open.len() > 1).then_some("in a block"));
+                }
+                Item::Lock { name } => {
+                    uses.extend(is_mirror(name).then_some("locked"));
+                    let other_name = |block: &Block| {
+                        matches!(block, Block::Lock(held) if held != name && root(held) == root(name))
+                    };
+                    let around = open.iter().any(other_name);
+                    uses.extend(around.then_some("locked in its lock"));
+                }
+                Item::Call { names, .. } => {
+                    uses.extend(names.iter().any(is_mirror).then_some("passed"));
+                    let locks: BTreeSet<u8> = names.iter().map(root).collect();
+                    let written: BTreeSet<u8> = names.iter().copied().collect();
+                    uses.extend((locks.len() < written.len()).then_some("passed with its lock"));
+                }
+                _ => {}
+            });
+            uses.extend((locals == MAX_LOCALS && mirrors > 0).then_some("an eighth local"));
+        }
+        uses
+    }
+
+    #[test]
+    fn random_tables_use_mirrors_in_every_way() {
+        const ALL: usize = 4_000;
+        let mut met = BTreeMap::new();
+        for index in 0..ALL {
+            if let Ok(table) = read(&random(1, index as u64).1) {
+                for what in uses_of_mirrors(&table) {
+                    *met.entry(what).or_insert(0) += 1;
+                }
+            }
+        }
+        // In a hundred of all tables.
+        for (what, least) in [
+            ("any", 36),
+            ("of a mirror", 20),
+            ("of a parameter", 15),
+            ("in a block", 20),
+            ("locked", 25),
+            ("locked in its lock", 15),
+            ("passed", 10),
+            ("passed with its lock", 5),
+            ("an eighth local", 5),
+        ] {
+            let count = met.get(what).unwrap_or(&0);
+            assert!(100 * count >= least * ALL, "{what}: {count}");
+        }
+    }
+
+    #[test]
+    fn bad_tables_with_mirrors_are_refused_for_them() {
+        let mut rng = Rng::new(1);
+        let (mut too_many, mut bad_name) = (0, 0);
+        for _ in 0..1_000 {
+            match check(&of_kind(&mut rng, Kind::BadMirrors)) {
+                Err(refusal::TOO_MANY) => too_many += 1,
+                Err(refusal::BAD_NAME) => bad_name += 1,
+                _ => {}
+            }
+        }
+        assert!(too_many >= 100, "{too_many}");
+        assert!(bad_name >= 150, "{bad_name}");
     }
 
     #[test]

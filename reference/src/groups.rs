@@ -55,6 +55,11 @@ pub fn groups() -> Vec<Group> {
             valid(Kind::Nested, RANDOM),
         ),
         group(
+            "ordinary: mirrors",
+            "random, of all these sorts, with locks that have two names or more",
+            valid(Kind::Mirrors, RANDOM),
+        ),
+        group(
             "full: LOCKs",
             "64 routines of seven names, LOCK and END items alone",
             vec![full_of_locks()],
@@ -224,7 +229,7 @@ fn many_rounds() -> Vec<u8> {
 /// The table with a bad code in place of its last END.
 fn spoilt(mut table: Vec<u8>) -> Vec<u8> {
     if let Some(last) = table.last_mut() {
-        *last = CALL + 1;
+        *last = LAST + 1;
     }
     table
 }

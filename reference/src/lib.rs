@@ -1,5 +1,5 @@
-//! A second analyser of handler tables, written from document 01 and requests #101
-//! and #102 of document 02, the customer's papers, apart from what is under test;
+//! A second analyser of handler tables, written from document 01 and requests #101,
+//! #102 and #104 of document 02, the customer's papers, apart from what is under test;
 //! docs/FORMAT.md is our page on the same format.
 //!
 //! It is kept plain, to be compared against, not to be fast:

@@ -6,8 +6,8 @@ pub const MAX_ROUTINES: usize = 64;
 pub const MAX_PARAMETERS: u8 = 7;
 /// Most bytes in the body section.
 pub const MAX_SECTION: usize = 4_096;
-/// Most NEW items in a routine.
-pub const MAX_NEW: u8 = 8;
+/// Most locals of a routine: NEW and MIRROR items together.
+pub const MAX_LOCALS: u8 = 8;
 /// Most FORK items in a routine.
 pub const MAX_FORK: u8 = 8;
 /// Most blocks open at one time, the body not counted.
@@ -49,6 +49,9 @@ pub mod code {
     pub const CHOICE: u8 = 4;
     pub const OTHER: u8 = 5;
     pub const CALL: u8 = 6;
+    pub const MIRROR: u8 = 7;
+    /// The highest code.
+    pub const LAST: u8 = MIRROR;
 }
 
 /// Refusals, numbered in the order in which they are tried.

@@ -64,10 +64,12 @@ fn add(pairs: &mut Pairs, pair: Pair) -> bool {
 /// Which rules for pairs are applied. The share is taken of what they give.
 #[derive(Clone, Copy, Debug, PartialEq, Eq)]
 pub enum Rules {
-    /// Those in force: document 01 with request #101.
+    /// Those in force: document 01 with requests #101 and #104.
     InForce,
-    /// Document 01 alone, to tell what that request changes.
+    /// Those without request #101, to tell what it changes.
     Before101,
+    /// Those in force with each mirror a lock of its own, to tell what mirrors change.
+    MirrorsApart,
 }
 
 /// The thread at a place, and its open blocks in this body, the outermost first.
@@ -85,7 +87,8 @@ fn thread(open: &[Block]) -> (Label, &[Block]) {
 /// its thread, is a LOCK block of that name.
 fn passed_over(rules: Rules, around: &[Block], name: u8) -> bool {
     match rules {
-        Rules::InForce => around.contains(&Block::Lock(name)),
+        // By the names as written: a mirror of a name is another name.
+        Rules::InForce | Rules::MirrorsApart => around.contains(&Block::Lock(name)),
         Rules::Before101 => false,
     }
 }
@@ -125,7 +128,8 @@ fn place(rules: Rules, open: &[Block]) -> Place {
     }
 }
 
-/// The pair that a LOCK records; none where it is passed over or nothing is held.
+/// The pair that a LOCK records, by the names as written; none where it is passed over
+/// or nothing is held.
 fn lock_pair(rules: Rules, open: &[Block], name: u8) -> Option<Pair> {
     if passed_over(rules, thread(open).1, name) {
         return None;
@@ -138,7 +142,8 @@ fn lock_pair(rules: Rules, open: &[Block], name: u8) -> Option<Pair> {
     })
 }
 
-/// What a pair of a callee's row becomes at a CALL; none where an end is nothing.
+/// What a pair of a callee's row becomes at a CALL, by the names as written; none where
+/// an end is nothing.
 fn call_pair(place: Place, names: &[u8], pair: Pair) -> Option<Pair> {
     // Name 0 is what is held here, a parameter is the name passed for it.
     let rename = |name: u8| match name {
@@ -156,25 +161,44 @@ fn call_pair(place: Place, names: &[u8], pair: Pair) -> Option<Pair> {
     })
 }
 
+/// For each name of a routine, the one that its pairs are recorded under.
+fn roots(rules: Rules, routine: &Routine) -> Vec<u8> {
+    let roots = routine.roots();
+    match rules {
+        Rules::InForce | Rules::Before101 => roots,
+        Rules::MirrorsApart => (0..roots.len() as u8).collect(),
+    }
+}
+
 /// The pairs that the items of one body give, before composing.
 /// A choice gives what its two alternatives give.
 fn recorded(rules: Rules, routine: &Routine, rows: &[Pairs]) -> Pairs {
+    let roots = roots(rules, routine);
     let mut pairs = Pairs::new();
-    routine.walk(|item, open| match item {
-        Item::Lock { name } => {
-            if let Some(pair) = lock_pair(rules, open, *name) {
-                add(&mut pairs, pair);
-            }
+    let mut record = |written: Option<Pair>| {
+        if let Some(Pair {
+            held,
+            wanted,
+            label,
+        }) = written
+        {
+            let pair = Pair {
+                held: roots[held as usize],
+                wanted: roots[wanted as usize],
+                label,
+            };
+            add(&mut pairs, pair);
         }
+    };
+    routine.walk(|item, open| match item {
+        Item::Lock { name } => record(lock_pair(rules, open, *name)),
         Item::Call { routine, names } => {
             let place = place(rules, open);
             for row_pair in &rows[*routine] {
-                if let Some(pair) = call_pair(place, names, *row_pair) {
-                    add(&mut pairs, pair);
-                }
+                record(call_pair(place, names, *row_pair));
             }
         }
-        Item::New | Item::Fork | Item::Choice | Item::Other | Item::End => {}
+        Item::New | Item::Mirror { .. } | Item::Fork | Item::Choice | Item::Other | Item::End => {}
     });
     pairs
 }
@@ -492,6 +516,45 @@ mod tests {
                 ]
             ),
             (vec![(0, 1, Own), (1, 2, Own), (2, 1, Fork(1))], 1)
+        );
+    }
+
+    #[test]
+    fn pairs_of_mirrors_before_composing() {
+        use code::*;
+        use Label::{Fork, Own};
+        let main = |pairs: &[(u8, u8)]| pairs.iter().map(|&(a, b)| (a, b, Own)).collect();
+        // 4 is a mirror of 1. Its LOCK is not passed over, and 1 is the h in its block.
+        assert_eq!(
+            recorded_in(
+                3,
+                &[MIRROR, 1, LOCK, 1, LOCK, 2, LOCK, 4, LOCK, 3, END, END, END, END, END]
+            ),
+            (main(&[(0, 1), (1, 2), (1, 3), (2, 1)]), 0)
+        );
+        // Taken again by the same name it is passed over.
+        assert_eq!(
+            recorded_in(
+                3,
+                &[MIRROR, 1, LOCK, 4, LOCK, 2, LOCK, 4, LOCK, 3, END, END, END, END, END]
+            ),
+            (main(&[(0, 1), (1, 2), (2, 3)]), 1)
+        );
+        // Directly inside its lock the pair has equal ends.
+        assert_eq!(
+            recorded_in(
+                2,
+                &[MIRROR, 1, LOCK, 1, LOCK, 3, LOCK, 2, END, END, END, END]
+            ),
+            (main(&[(0, 1), (1, 2)]), 0)
+        );
+        // In a fork, over a mirror of a mirror.
+        assert_eq!(
+            recorded_in(
+                2,
+                &[MIRROR, 1, MIRROR, 3, FORK, LOCK, 4, LOCK, 2, END, END, END, END]
+            ),
+            (vec![(1, 2, Fork(1))], 0)
         );
     }
 }

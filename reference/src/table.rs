@@ -1,6 +1,6 @@
 //! Reading a table, with refusals 1 to 14 in the order of docs/FORMAT.md.
 
-use crate::limits::{code, refusal, MAX_FORK, MAX_NEW, MAX_OPEN};
+use crate::limits::{code, refusal, MAX_FORK, MAX_LOCALS, MAX_OPEN};
 use crate::limits::{MAX_PARAMETERS, MAX_ROUTINES, MAX_SECTION};
 
 /// A table that has passed every check.
@@ -26,6 +26,7 @@ pub enum Item {
     Choice,
     Other,
     Call { routine: usize, names: Vec<u8> },
+    Mirror { name: u8 },
 }
 
 /// An open block.
@@ -51,9 +52,32 @@ impl Table {
             .map(|routine| routine.items.len())
             .sum()
     }
+
+    /// MIRROR items in all bodies.
+    pub fn mirrors(&self) -> usize {
+        let items = self.routines.iter().flat_map(|routine| &routine.items);
+        items
+            .filter(|item| matches!(item, Item::Mirror { .. }))
+            .count()
+    }
 }
 
 impl Routine {
+    /// For each name from 0 on, the name that pairs are recorded under: that of a
+    /// mirror's lock, all the way back to a NEW or a parameter, else the name itself.
+    pub fn roots(&self) -> Vec<u8> {
+        let mut roots: Vec<u8> = (0..=self.parameters).collect();
+        for item in &self.items {
+            match item {
+                Item::New => roots.push(roots.len() as u8),
+                // A mirror stands behind what it mirrors, so that is known.
+                Item::Mirror { name } => roots.push(roots[*name as usize]),
+                _ => {}
+            }
+        }
+        roots
+    }
+
     /// Visits each item with the blocks that are open where it stands, the
     /// outermost first. A LOCK stands outside the block that it opens.
     pub fn walk(&self, mut visit: impl FnMut(&Item, &[Block])) {
@@ -62,7 +86,7 @@ impl Routine {
         for item in &self.items {
             visit(item, &open);
             match item {
-                Item::New | Item::Call { .. } => {}
+                Item::New | Item::Mirror { .. } | Item::Call { .. } => {}
                 Item::Lock { name } => open.push(Block::Lock(*name)),
                 Item::Fork => {
                     forks += 1;
@@ -168,13 +192,13 @@ impl Reader<'_> {
     fn routine(&mut self, parameters: u8, counts: &[u8]) -> Result<Routine, u32> {
         let mut items = Vec::new();
         let mut open = vec![Open::new(Block::Body)];
-        let mut news = 0;
+        let mut locals = 0;
         let mut forks = 0;
         while let Some(innermost) = open.last_mut() {
             // 7: a code is due.
             let code = self.byte().ok_or(refusal::NO_CODE)?;
             // 8: unknown code.
-            if code > code::CALL {
+            if code > code::LAST {
                 return Err(refusal::BAD_CODE);
             }
             // 9: a first alternative is ended by OTHER, and by nothing else.
@@ -188,8 +212,9 @@ impl Reader<'_> {
             if opens && depth == MAX_OPEN {
                 return Err(refusal::TOO_DEEP);
             }
-            // 11: NEW and FORK of this routine.
-            if (code == code::NEW && news == MAX_NEW) || (code == code::FORK && forks == MAX_FORK) {
+            // 11: locals and FORK of this routine.
+            let makes_local = matches!(code, code::NEW | code::MIRROR);
+            if (makes_local && locals == MAX_LOCALS) || (code == code::FORK && forks == MAX_FORK) {
                 return Err(refusal::TOO_MANY);
             }
             items.push(match code {
@@ -198,13 +223,11 @@ impl Reader<'_> {
                     open.pop();
                     Item::End
                 }
-                code::NEW => {
-                    // Locals are numbered over the whole routine.
-                    news += 1;
-                    if let Some(innermost) = open.last_mut() {
-                        innermost.locals.push(parameters + news);
-                    }
-                    Item::New
+                code::NEW => Item::New,
+                code::MIRROR => {
+                    // 13: the name, which cannot be that of the mirror itself.
+                    let name = self.name(parameters, &open)?;
+                    Item::Mirror { name }
                 }
                 code::LOCK => {
                     // 13: the name.
@@ -240,6 +263,13 @@ impl Reader<'_> {
                     Item::Call { routine, names }
                 }
             });
+            if makes_local {
+                // Locals are numbered over the whole routine.
+                locals += 1;
+                if let Some(innermost) = open.last_mut() {
+                    innermost.locals.push(parameters + locals);
+                }
+            }
         }
         Ok(Routine { parameters, items })
     }

@@ -136,7 +136,7 @@ fn each_refusal_of_the_check() {
         (6, "01 00 01 00 00 00"),
         (7, "01 00 00 00"),
         (7, "02 00 00 01 00 00"),
-        (8, "01 00 02 00 07 00"),
+        (8, "01 00 02 00 08 00"),
         (9, "01 00 02 00 05 00"),
         (9, "01 00 03 00 04 00 00"),
         (
@@ -144,11 +144,14 @@ fn each_refusal_of_the_check() {
             "01 00 12 00 04 04 04 04 04 04 04 04 04 04 04 04 04 04 04 04 04 00",
         ),
         (11, "01 00 0A 00 01 01 01 01 01 01 01 01 01 00"),
+        (11, "01 00 0B 00 01 01 01 01 01 01 01 01 07 01 00"),
         (12, "01 00 01 00 06"),
         (12, "01 00 03 00 06 01 00"),
         (13, "01 00 01 00 02"),
         (13, "01 00 04 00 02 01 00 00"),
         (13, "02 00 01 03 00 01 06 01"),
+        (13, "01 00 01 00 07"),
+        (13, "01 00 03 00 07 01 00"),
         (14, "01 00 02 00 00 00"),
     ] {
         let table = hex::parse(text).expect("hexadecimal");
@@ -229,12 +232,19 @@ fn competing_refusals() {
     let nine_inside = [[FORK].repeat(9), [END].repeat(9)].concat();
     assert_eq!(check(&nested(8, &nine_inside)), Err(10));
     assert_eq!(check(&nested(7, &nine_inside)), Err(11));
+    // A ninth local and an eighth, both a MIRROR with a bad name.
+    let mirror_behind = |news: usize| {
+        let section = [&[NEW].repeat(news)[..], &[MIRROR, 9, END]].concat();
+        check(&assemble(&[0], &section))
+    };
+    assert_eq!(mirror_behind(8), Err(11));
+    assert_eq!(mirror_behind(7), Err(13));
     // A missing routine byte, and a missing name after a good one.
     assert_eq!(check(&assemble(&[0, 1], &[END, CALL])), Err(12));
     assert_eq!(check(&assemble(&[0, 1], &[END, CALL, 1])), Err(13));
     // The earlier item is refused first, whatever its number.
-    assert_eq!(check(&assemble(&[0], &[LOCK, 9, 7])), Err(13));
-    assert_eq!(check(&assemble(&[0], &[7, LOCK, 9])), Err(8));
+    assert_eq!(check(&assemble(&[0], &[LOCK, 9, 8])), Err(13));
+    assert_eq!(check(&assemble(&[0], &[8, LOCK, 9])), Err(8));
     // A table refused otherwise is not refused for its buffer.
     assert_eq!(analyse(&[], &mut []), Answer::Refused(1));
 }

@@ -74,11 +74,29 @@ fn random_tables_of_routines_reached_and_not() {
     }
 }
 
+#[test]
+fn random_tables_of_mirrors() {
+    let mut rng = Rng::new(6);
+    for kind in [Kind::Mirrors, Kind::LargeMirrors, Kind::BadMirrors] {
+        for index in 0..1_500 {
+            let table = of_kind(&mut rng, kind);
+            hold(&format!("table {index} of {kind:?}"), &table);
+        }
+    }
+}
+
 /// Every prefix of some tables, and many values of each of their bytes.
 #[test]
 fn tables_cut_and_changed_everywhere() {
     let mut rng = Rng::new(3);
-    for kind in [Kind::Small, Kind::Small, Kind::Nested, Kind::Nested] {
+    for kind in [
+        Kind::Small,
+        Kind::Small,
+        Kind::Nested,
+        Kind::Nested,
+        Kind::Mirrors,
+        Kind::Mirrors,
+    ] {
         let table = of_kind(&mut rng, kind);
         for at in 0..table.len() {
             hold("a prefix", &table[..at]);

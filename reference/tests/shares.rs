@@ -337,6 +337,7 @@ fn bytes(routine: &Routine) -> Vec<u8> {
                 bytes.extend([code::CALL, *routine as u8]);
                 bytes.extend(names);
             }
+            Item::Mirror { name } => bytes.extend([code::MIRROR, *name]),
         }
     }
     bytes

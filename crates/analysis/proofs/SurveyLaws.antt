@@ -10,6 +10,7 @@ use lib.Seq.{getD-set-same, getD-set-other, getD-take, length-take-le}
 use Rattle.table.specs.Constants.{END}
 use Rattle.table.specs.Program.{Program, body}
 use Rattle.table.specs.Encoding.{encode, encodeBodies}
+use Rattle.table.specs.laws.Sound.{counts-params}
 use Rattle.rules.specs.Verdict.{Calls}
 use Rattle.grid.specs.Rows.{Has}
 use Rattle.pairs.specs.Fine.{Fine, IsBody}
@@ -24,13 +25,13 @@ module _ (P : Program) (ks s : List ℕ) (h : Holds P ks s) (r : ℕ) (l : r < l
   abbrev pub rest : List ℕ
   rest = encodeBodies (drop (suc r) P)
 
-  pub fine-here : Fine ks (body P r)
-  fine-here = rw (h .params-are) (fine P r (h .limits) l)
+  pub fine-here : Fine ks (getD ks r 0) (body P r)
+  fine-here = rw (h .params-are, counts-params P r) (fine P r (h .limits) l)
 
   pub bytes-here : drop (startOf P r) s ≡ encode END (body P r) ++ rest
   bytes-here = ap (drop (startOf P r)) (h .bytes-are) ∙ body-at P r l
 
-  pub is-body : (at : ℕ) → at ≡ startOf P r → IsBody ks s at
+  pub is-body : (at : ℕ) → at ≡ startOf P r → IsBody ks (getD ks r 0) s at
   is-body at e = (body P r, rest, fine-here, ap (λ (v : ℕ). drop v s) e ∙ bytes-here)
 
 -- what is known of routine q
@@ -65,10 +66,10 @@ module _ (ks s : List ℕ) where
       first (q ∷ P) = refl
 
   module _ (starts calls : List ℕ) (at r : ℕ) (v : Surveying ks s starts calls at r) (lt : r < length ks) where
-    pub scan-ready : Held ks s → IsBody ks s at × (length ks ≤ 64)
+    pub scan-ready : Held ks s → ((k : ℕ) × IsBody ks k s at) × (length ks ≤ 64)
     scan-ready p =
         let e = routines (p .0) ks s (p .1) in
-        (is-body (p .0) ks s (p .1) r (omega arith) at (v .here (p .0) (p .1)), few p)
+        ((getD ks r 0, is-body (p .0) ks s (p .1) r (omega arith) at (v .here (p .0) (p .1))), few p)
 
     pub survey-turn : (next mask : ℕ) → Held ks s → Scans ks s at next mask
         → Surveying ks s (set starts r at) (set calls r mask) next (r + 1)
@@ -79,7 +80,7 @@ module _ (ks s : List ℕ) where
       here = λ P h.
           let e = routines P ks s h in
           let lr : r < length P = omega arith in
-          sc .ends (body P r) (rest P ks s h r lr) (fine-here P ks s h r lr) (bytes P h lr)
+          sc .ends (getD ks r 0) (body P r) (rest P ks s h r lr) (fine-here P ks s h r lr) (bytes P h lr)
           ∙ ap (λ (u : ℕ). u + length (encode END (body P r))) (v .here P h)
           ∙ sym (start-next P r lr) ∙ ap (startOf P) (sym (add-one r));
       told = λ P h q l. step P h q l (ℕ-discrete q r);
@@ -96,10 +97,10 @@ module _ (ks s : List ℕ) where
             → Told P (set starts r at) (set calls r mask) q
         step P h q l (yes e) = subst (Told P (set starts r at) (set calls r mask)) (sym e) (record {
           start = getD-set-same starts r at 0 (let f = v .starts-long in let i = inside in omega arith) ∙ v .here P h;
-          calls-to = λ p w. sc .only (body P r) (rest P ks s h r lr) (fine-here P ks s h r lr) (bytes P h lr) p
-              (rw mask-is at w);
-          calls-from = λ p w. rw mask-is (sc .all (body P r) (rest P ks s h r lr) (fine-here P ks s h r lr)
-              (bytes P h lr) p w);
+          calls-to = λ p w. sc .only (getD ks r 0) (body P r) (rest P ks s h r lr) (fine-here P ks s h r lr)
+              (bytes P h lr) p (rw mask-is at w);
+          calls-from = λ p w. rw mask-is (sc .all (getD ks r 0) (body P r) (rest P ks s h r lr)
+              (fine-here P ks s h r lr) (bytes P h lr) p w);
         })
           where
             lr : r < length P

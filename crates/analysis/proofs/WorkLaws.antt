@@ -48,24 +48,26 @@ named-by P model r g x long pairs name = record {
       (l, omega arith);
 }
 
-module _ (ks s : List ℕ) (at : ℕ) (rows : List ℕ) where
-  pub can-record : BodyReady ks s at rows → IsBody ks s at × (65 * length ks ≤ length rows)
+module _ (ks s : List ℕ) (at r : ℕ) (rows : List ℕ) where
+  pub can-record : BodyReady ks s at r rows → IsBody ks (getD ks r 0) s at × (65 * length ks ≤ length rows)
   can-record b =
       let o = b .body-of in
       let e = routines (b .program) ks s (o .holds) in
       let l = b .long in
-      (is-body (b .program) ks s (o .holds) (b .routine) (o .listed) at (o .starts), omega arith)
+      (is-body (b .program) ks s (o .holds) r (o .listed) at (o .starts), omega arith)
 
   -- what is recorded from an empty grid can be closed
-  pub can-close : (e g : List (List ℕ)) → BodyReady ks s at rows → Empty e → Records ks s at rows e g
+  pub can-close : (e g : List (List ℕ)) → BodyReady ks s at r rows → Empty e
+      → Records ks (getD ks r 0) s at rows e g
       → Small g × AllKept g
   can-close e g b em rec =
       let c = can-record b .0 in
       let q = rec (c .0) (c .1) (c .2) (c .3) in
       (q .small, q .kept (em .kept))
 
-  pub works : (e g c : List (List ℕ)) → Empty e → Records ks s at rows e g → Closure g c → Works ks s at rows c
-  works e g c em rec cl P r o = record { only = only; all = all }
+  pub works : (e g c : List (List ℕ)) → Empty e → Records ks (getD ks r 0) s at rows e g → Closure g c
+      → Works ks s at r rows c
+  works e g c em rec cl P o = record { only = only; all = all }
     where
       bytes : drop at s ≡ encode END (body P r) ++ rest P ks s (o .holds) r (o .listed)
       bytes = ap (λ (v : ℕ). drop v s) (o .starts) ∙ bytes-here P ks s (o .holds) r (o .listed)

@@ -11,12 +11,12 @@ use table::limits::MOST_ROUTINES;
 use table::limits::ROW_BYTES;
 use table::scope::size;
 
-// The pairs worked out in the body at `at` from the rows, as a grid.
-fn worked_out(ks: &[u8], s: &[u8], at: usize, rows: &[u8]) -> Grid
-    requires { ⌜ BodyReady (now ks) (now s) at (now rows) ⌝ }
-    ensures { λ g. ⌜ Works (now (ks .entry)) (now (s .entry)) at (now (rows .entry)) g ⌝ }
+// The pairs worked out in the body of routine r, which is at `at`, from the rows, as a grid.
+fn worked_out(ks: &[u8], s: &[u8], at: usize, r: usize, rows: &[u8]) -> Grid
+    requires { ⌜ BodyReady (now ks) (now s) at r (now rows) ⌝ }
+    ensures { λ g. ⌜ Works (now (ks .entry)) (now (s .entry)) at r (now (rows .entry)) g ⌝ }
 {
-    let g = pairs::recorded(grid::empty(), ks, s, at, rows);
+    let g = pairs::recorded(grid::empty(), ks, ks[r], s, at, rows);
     grid::close(g)
 }
 
@@ -36,7 +36,7 @@ fn improve(ks: &[u8], s: &[u8], at: usize, r: usize, model: &mut [u8]) -> Improv
         (w .changed) (w .name) ⌝ }
 {
     let k = size(ks[r]);
-    let g = worked_out(ks, s, at, model);
+    let g = worked_out(ks, s, at, r, model);
     let name = grid::ring_name(g) as u8;
     let changed = rows::with_row(model, r, k, g);
     Improvement {

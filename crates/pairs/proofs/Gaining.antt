@@ -2,14 +2,14 @@
 use mathlib.Core.Path.{_≡_, refl, sym, ap, subst, _∙_}
 use mathlib.Core.Logic.{_⊎_, inl, inr, ⊎-elim}
 use mathlib.Core.Bool.{Bool, true, false, cond}
-use mathlib.Core.List.{List, [], _∷_}
+use mathlib.Core.List.{List, [], _∷_, map}
 use mathlib.Core.Option.{Option, none, some}
 use Prim.Native.Nat.{ℕ, zero, suc, _+_, _-_, _*_, _/_, _%_, _^_, _≤_, _<_}
 use native.Mathlib.Omega.{arith}
 use native.Mathlib.Decide.{decLt}
 use native.Mathlib.Nat.{div-one}
 use lib.Bits.{bitOr, or-lt}
-use lib.ListN.{length, getD, getElem?, drop, length-drop}
+use lib.ListN.{length, getD, getElem?, drop, length-drop, length-map}
 use lib.Seq.{length-take-le, getD-take, getD-drop}
 use borrow.Author.Tests.{le-ltb}
 use Rattle.table.specs.Constants.{most-forks}
@@ -20,13 +20,13 @@ use Rattle.grid.specs.Rows.{Has, Bits}
 use Rattle.grid.specs.Grid.{In, Small, Added}
 use Rattle.grid.specs.laws.Masks.{below-bits, bits-or, bits-one, bits-shl}
 use Rattle.grid.specs.laws.Labels.{not-several, in-one, one-in}
-use Rattle.pairs.specs.Walks.{heldBy, inNest, holderUnder}
-use Rattle.pairs.specs.Gains.{HoldersGive, CallGives, Gains, namesAt, Low, MaskGives, Placed}
+use Rattle.pairs.specs.Walks.{heldBy, rootOf, inNest, holderUnder}
+use Rattle.pairs.specs.Gains.{HoldersGive, CallGives, Gains, namesAt, rootsAt, LowAt, MaskGives, Placed}
 use Rattle.rows.specs.Model.{Labelled, RowBits}
 use Rattle.rows.specs.laws.Cells.{no-label}
 use Rattle.pairs.specs.Gains.{Below, CellGives, LineGives, RowGives, RowReady, CallReady}
 use Rattle.pairs.proofs.Pending.{LockGives}
-use Rattle.pairs.proofs.Steps.{held-name, in-nest, not-in-nest}
+use Rattle.pairs.proofs.Tracking.{held-name, in-nest, not-in-nest}
 
 pub gains-none : (g : List (List ℕ)) (N : ℕ → ℕ → Label → Type 0) → Small g → ((a b : ℕ) (l : Label) → N a b l → ⊥)
     → Gains g N g
@@ -111,13 +111,13 @@ mask-gains p q t n =
     (λ a b l w. (w .0, w .1, one-in _ t l (omega arith) o (w .2)))
 
 -- from the holder outside LOCK x to the one inside: a pair with equal ends is not kept
-pub lock-gains : {g r : List (List ℕ)} (h x t m : ℕ) → x < 16 → t ≤ most-forks
-    → Gains g (HoldersGive (heldBy h) (heldBy (holderUnder m h x)) (labelOf t)) r
-    → Gains g (LockGives (Has m) x (labelOf t) (heldBy h)) r
-lock-gains {g} {r} h x t m k n = go (inNest m x) refl
+pub lock-gains : {g r : List (List ℕ)} (h x z t m : ℕ) → z < 16 → t ≤ most-forks
+    → Gains g (HoldersGive (heldBy h) (heldBy (holderUnder m h x z)) (labelOf t)) r
+    → Gains g (LockGives (Has m) x z (labelOf t) (heldBy h)) r
+lock-gains {g} {r} h x z t m k n = go (inNest m x) refl
   where
-    go : (v : Bool) → inNest m x ≡ v → Gains g (HoldersGive (heldBy h) (heldBy (cond v h x)) (labelOf t)) r
-        → Gains g (LockGives (Has m) x (labelOf t) (heldBy h)) r
+    go : (v : Bool) → inNest m x ≡ v → Gains g (HoldersGive (heldBy h) (heldBy (cond v h z)) (labelOf t)) r
+        → Gains g (LockGives (Has m) x z (labelOf t) (heldBy h)) r
     go true e =
         gains-same
         (λ a b l w. ⊎-elim
@@ -126,8 +126,8 @@ lock-gains {g} {r} h x t m k n = go (inNest m x) refl
         (λ a b l w kept. absurd (w .0 (in-nest m x e)))
     go false e =
         gains-map
-        (λ a b l w. (not-in-nest m x e, w .0, held-same x b k (w .1), w .2))
-        (λ a b l w. (w .1, held-name x k ∙ ap some (sym (w .2)), w .3))
+        (λ a b l w. (not-in-nest m x e, w .0, held-same z b k (w .1), w .2))
+        (λ a b l w. (w .1, held-name z k ∙ ap some (sym (w .2)), w .3))
 
 -- the i-th name of a list
 pub name-some : (xs : List ℕ) (i : ℕ) → i < length xs → getElem? xs i ≡ some (getD xs i 0)
@@ -139,6 +139,12 @@ pub name-none : (xs : List ℕ) (i : ℕ) → length xs ≤ i → getElem? xs i 
 name-none [] i h = refl
 name-none (x ∷ xs) zero h = absurd (omega arith)
 name-none (x ∷ xs) (suc i) h = name-none xs i (omega arith)
+
+-- the i-th entry of the images of a list
+map-entry : (f : ℕ → ℕ) (xs : List ℕ) (i : ℕ) → i < length xs → getD (map f xs) i 0 ≡ f (getD xs i 0)
+map-entry f [] i h = absurd (omega arith)
+map-entry f (x ∷ xs) zero h = refl
+map-entry f (x ∷ xs) (suc i) h = map-entry f xs i (omega arith)
 
 pub renamed-within : (h : Option ℕ) (xs : List ℕ) (i x : ℕ) → renamed h xs i ≡ some x → i ≤ length xs
 renamed-within h xs zero x e = omega arith
@@ -153,19 +159,31 @@ module _ (s : List ℕ) (at k : ℕ) (l : at + k ≤ length s) where
   pub names-byte : (i : ℕ) → i < k → getD (namesAt s at k) i 0 ≡ getD s (at + i) 0
   names-byte i h = getD-take k (drop at s) i 0 h ∙ getD-drop at s i 0
 
-  pub renamed-name : (h : Option ℕ) → Low (namesAt s at k) → (i : ℕ) → 1 ≤ i → i ≤ k
-      → heldBy (getD s (at + (i - 1)) 0) ≡ renamed h (namesAt s at k) i
-  renamed-name h n zero a b = absurd (omega arith)
-  renamed-name h n (suc i) a b =
-      let e : suc i - 1 ≡ i = omega arith in
-      let f = names-byte i (omega arith) in
-      let g : getD s (at + i) 0 < 16 = rw f at (n i) in
-      rw e (held-name (getD s (at + i) 0) g ∙ ap some (sym f)
-      ∙ sym (name-some (namesAt s at k) i (let z = names-length in omega arith)))
+  module _ (rs : List ℕ) where
+    roots-length : length (rootsAt rs s at k) ≡ k
+    roots-length = length-map (namesAt s at k) (rootOf rs) ∙ names-length
 
-  pub renamed-none : (h : Option ℕ) (i : ℕ) → k < i → none ≡ renamed h (namesAt s at k) i
-  renamed-none h zero b = absurd (omega arith)
-  renamed-none h (suc i) b = sym (name-none (namesAt s at k) i (let z = names-length in omega arith))
+    roots-byte : (i : ℕ) → i < k → getD (rootsAt rs s at k) i 0 ≡ rootOf rs (getD s (at + i) 0)
+    roots-byte i h =
+        map-entry (rootOf rs) (namesAt s at k) i (let z = names-length in omega arith) ∙ ap (rootOf rs) (names-byte i h)
+
+    -- the name is an entry of the array of roots
+    pub byte-low : LowAt rs s at k → (i : ℕ) → 1 ≤ i → i ≤ k → getD s (at + (i - 1)) 0 < 16
+    byte-low n i a b = rw (← names-byte (i - 1) (omega arith)) (n .0 (i - 1))
+
+    pub renamed-name : (h : Option ℕ) → LowAt rs s at k → (i : ℕ) → 1 ≤ i → i ≤ k
+        → heldBy (rootOf rs (getD s (at + (i - 1)) 0)) ≡ renamed h (rootsAt rs s at k) i
+    renamed-name h n zero a b = absurd (omega arith)
+    renamed-name h n (suc i) a b =
+        let e : suc i - 1 ≡ i = omega arith in
+        let f = roots-byte i (omega arith) in
+        let g : rootOf rs (getD s (at + i) 0) < 16 = rw f at (n .1 i) in
+        rw e (held-name (rootOf rs (getD s (at + i) 0)) g ∙ ap some (sym f)
+        ∙ sym (name-some (rootsAt rs s at k) i (let z = roots-length in omega arith)))
+
+    pub renamed-none : (h : Option ℕ) (i : ℕ) → k < i → none ≡ renamed h (rootsAt rs s at k) i
+    renamed-none h zero b = absurd (omega arith)
+    renamed-none h (suc i) b = sym (name-none (rootsAt rs s at k) i (let z = roots-length in omega arith))
 
 pub renamed-first : (n : ℕ) (xs : List ℕ) (i : ℕ) → i ≡ 0 → heldBy n ≡ renamed (heldBy n) xs i
 renamed-first n xs i e = rw e
@@ -264,9 +282,9 @@ module _ (rows : List ℕ) (first : ℕ) (xs : List ℕ) (t : ℕ) (h : Option �
       subst (λ (v : Option ℕ). Gains g (LineGives rows (first + 8 * i) xs (labelOf t) h v n) r) e p
 
 -- a line of a row that can be recorded
-pub line-ready : (s : List ℕ) (at k : ℕ) (rows : List ℕ) (first t i : ℕ) → i ≤ k → RowReady s at k rows first 64 t
-    → RowReady s at k rows (first + 8 * i) 8 t
-line-ready s at k rows first t i l p =
+pub line-ready : (rs s : List ℕ) (at k : ℕ) (rows : List ℕ) (first t i : ℕ) → i ≤ k → RowReady rs s at k rows first 64 t
+    → RowReady rs s at k rows (first + 8 * i) 8 t
+line-ready rs s at k rows first t i l p =
     let a = p .params in
     let b = p .long in
     record { there = p .there; params = p .params; names = p .names; long = omega arith; thread = p .thread }
@@ -289,12 +307,12 @@ cells-all rows r k xs θ h lk lx p =
     p
 
 -- the row of a call, with the numbers that the code reads for it
-module _ (ks s rows : List ℕ) (at t : ℕ) (ready : CallReady ks s rows at t) (q k : ℕ) (eq : q ≡ getD s (at + 1) 0)
-    (ek : k ≡ getD ks q 0) where
+module _ (rs ks s rows : List ℕ) (at t : ℕ) (ready : CallReady rs ks s rows at t) (q k : ℕ)
+    (eq : q ≡ getD s (at + 1) 0) (ek : k ≡ getD ks q 0) where
   count-is : k ≡ getD ks (getD s (at + 1) 0) 0
   count-is = ek ∙ ap (λ (v : ℕ). getD ks v 0) eq
 
-  pub row-ready : RowReady s (at + 2) k rows (65 * q) 64 t
+  pub row-ready : RowReady rs s (at + 2) k rows (65 * q) 64 t
   row-ready =
       let a = ready .routine in
       let b = ready .long in
@@ -307,11 +325,11 @@ module _ (ks s rows : List ℕ) (at t : ℕ) (ready : CallReady ks s rows at t) 
       }
 
   pub row-gains : {g r : List (List ℕ)} (h : ℕ)
-      → Gains g (RowGives rows (65 * q) (namesAt s (at + 2) k) (labelOf t) (heldBy h) (k + 1) (k + 1)) r
+      → Gains g (RowGives rows (65 * q) (rootsAt rs s (at + 2) k) (labelOf t) (heldBy h) (k + 1) (k + 1)) r
       → Gains g (CallGives (RowBits rows) (getD s (at + 1) 0)
-      (namesAt s (at + 2) (getD ks (getD s (at + 1) 0) 0)) (labelOf t) (heldBy h)) r
+      (rootsAt rs s (at + 2) (getD ks (getD s (at + 1) 0) 0)) (labelOf t) (heldBy h)) r
   row-gains {g} {r} h p =
       subst (λ (v : ℕ). Gains g
-      (CallGives (RowBits rows) v (namesAt s (at + 2) (getD ks v 0)) (labelOf t) (heldBy h)) r) eq
-      (subst (λ (v : ℕ). Gains g (CallGives (RowBits rows) q (namesAt s (at + 2) v) (labelOf t) (heldBy h)) r) ek
-      (cells-all rows q k _ _ _ (row-ready .params) (names-length s (at + 2) k (row-ready .there)) p))
+      (CallGives (RowBits rows) v (rootsAt rs s (at + 2) (getD ks v 0)) (labelOf t) (heldBy h)) r) eq
+      (subst (λ (v : ℕ). Gains g (CallGives (RowBits rows) q (rootsAt rs s (at + 2) v) (labelOf t) (heldBy h)) r) ek
+      (cells-all rows q k _ _ _ (row-ready .params) (roots-length s (at + 2) k (row-ready .there) rs) p))

@@ -1,40 +1,42 @@
 -- The bodies that a table can hold, and where one starts in the body section.
 use mathlib.Core.Path.{_≡_}
-use mathlib.Core.List.{List, _++_}
+use mathlib.Core.List.{List, _∷_, _++_}
 use Prim.Native.Nat.{ℕ, _+_, _≤_, _<_}
 use lib.ListN.{length, getD, drop}
 use Rattle.table.specs.Constants.{END, most-params, most-open, most-forks, most-names}
-use Rattle.table.specs.Program.{Code, end, new, lock, fork, choice, call, forks}
+use Rattle.table.specs.Program.{Code, end, new, lock, fork, choice, call, mirror, names, locals, forks}
 use Rattle.table.specs.WellFormed.{In}
-use Rattle.table.specs.Encoding.{encode, depth}
+use Rattle.table.specs.Encoding.{encode, Numbered, depth}
 
--- every name that LOCK and CALL use is below 16, and each call is of a routine of ks, with a name for each parameter
-abbrev pub Named : List ℕ → Code → Type 0
-Named ks end = Unit {0}
-Named ks (new x c) = Named ks c
-Named ks (lock x c d) = (x < most-names) × Named ks c × Named ks d
-Named ks (fork i c d) = Named ks c × Named ks d
-Named ks (choice a b c) = Named ks a × Named ks b × Named ks c
-Named ks (call r xs c) =
-    (r < length ks) × (length xs ≡ getD ks r 0) × (length xs ≤ most-params) × ((x : ℕ) → In x xs → x < most-names)
-    × Named ks c
+-- each call is of a routine of ks, with a name for each parameter
+abbrev pub Calling : List ℕ → Code → Type 0
+Calling ks end = Unit {0}
+Calling ks (new x c) = Calling ks c
+Calling ks (lock x c d) = Calling ks c × Calling ks d
+Calling ks (fork i c d) = Calling ks c × Calling ks d
+Calling ks (choice a b c) = Calling ks a × Calling ks b × Calling ks c
+Calling ks (call r xs c) = (r < length ks) × (length xs ≡ getD ks r 0) × (length xs ≤ most-params) × Calling ks c
+Calling ks (mirror x y c) = Calling ks c
 
--- the FORK of the code are numbered in written order, where j of the routine stand before it
-abbrev pub ForksFrom : ℕ → Code → Type 0
-ForksFrom j end = Unit {0}
-ForksFrom j (new x c) = ForksFrom j c
-ForksFrom j (lock x c d) = ForksFrom j c × ForksFrom (j + forks c) d
-ForksFrom j (fork i c d) = (i ≡ j + 1) × ForksFrom (j + 1) c × ForksFrom (j + 1 + forks c) d
-ForksFrom j (choice a b c) = ForksFrom j a × ForksFrom (j + forks a) b × ForksFrom (j + forks a + forks b) c
-ForksFrom j (call r xs c) = ForksFrom j c
+-- every name that the code uses is in the scope s
+abbrev pub Uses : List ℕ → Code → Type 0
+Uses s end = Unit {0}
+Uses s (new x c) = Uses (x ∷ s) c
+Uses s (lock x c d) = In x s × Uses s c × Uses s d
+Uses s (fork i c d) = Uses s c × Uses s d
+Uses s (choice a b c) = Uses s a × Uses s b × Uses s c
+Uses s (call r xs c) = ((x : ℕ) → In x xs → In x s) × Uses s c
+Uses s (mirror x y c) = In y s × Uses (x ∷ s) c
 
--- a body of a table whose routines have the parameter counts ks
-pub record Fine (ks : List ℕ) (c : Code) : Type 0 where
-  pub named : Named ks c
+-- a body of a routine with k parameters, in a table whose routines have the parameter counts ks
+pub record Fine (ks : List ℕ) (k : ℕ) (c : Code) : Type 0 where
+  pub calling : Calling ks c
+  pub uses : Uses (names k) c
   pub few-open : depth c ≤ most-open
-  pub numbered : ForksFrom 0 c
+  pub numbered : Numbered k 0 0 c
+  pub few-names : k + locals c < most-names
   pub few-forks : forks c ≤ most-forks
 
--- a body starts at the offset
-abbrev pub IsBody : List ℕ → List ℕ → ℕ → Type 0
-IsBody ks s at = (c : Code) × (t : List ℕ) × Fine ks c × (drop at s ≡ encode END c ++ t)
+-- the body of a routine with k parameters starts at the offset
+abbrev pub IsBody : List ℕ → ℕ → List ℕ → ℕ → Type 0
+IsBody ks k s at = (c : Code) × (t : List ℕ) × Fine ks k c × (drop at s ≡ encode END c ++ t)

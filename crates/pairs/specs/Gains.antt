@@ -1,7 +1,7 @@
 -- What a grid gains: the pairs that items record, and the rows of the called routines as they stand in the buffer.
 use mathlib.Core.Path.{_≡_}
 use mathlib.Core.Logic.{_⊎_}
-use mathlib.Core.List.{List}
+use mathlib.Core.List.{List, map}
 use mathlib.Core.Option.{Option, some}
 use Prim.Native.Nat.{ℕ, _+_, _*_, _^_, _≤_, _<_}
 use lib.ListN.{length, getD, take, drop}
@@ -12,6 +12,7 @@ use Rattle.rules.specs.Model.{Kept, renamed}
 use Rattle.rules.specs.laws.Satisfies.{Pairs}
 use Rattle.rows.specs.Model.{Labelled}
 use Rattle.grid.specs.Grid.{In, Pair, Small, AllKept}
+use Rattle.pairs.specs.Walks.{rootOf}
 
 -- the pair from the holder h to the holder k in thread θ
 abbrev pub HoldersGive : Option ℕ → Option ℕ → Label → ℕ → ℕ → Label → Type 0
@@ -35,9 +36,17 @@ pub record Gains (g : List (List ℕ)) (N : ℕ → ℕ → Label → Type 0) (r
 abbrev pub namesAt : List ℕ → ℕ → ℕ → List ℕ
 namesAt s at n = take n (drop at s)
 
+-- the roots of the n names from an offset on
+abbrev pub rootsAt : List ℕ → List ℕ → ℕ → ℕ → List ℕ
+rootsAt rs s at n = map (rootOf rs) (namesAt s at n)
+
 -- each name is below 16
 abbrev pub Low : List ℕ → Type 0
 Low xs = (i : ℕ) → getD xs i 0 < most-names
+
+-- the names at the offset, n of them, are below 16, and so are their roots
+abbrev pub LowAt : List ℕ → List ℕ → ℕ → ℕ → Type 0
+LowAt rs s at n = Low (namesAt s at n) × Low (rootsAt rs s at n)
 
 -- the pair of two ends, where there are both, with each label of the mask m
 abbrev pub MaskGives : Option ℕ → Option ℕ → ℕ → ℕ → ℕ → Label → Type 0
@@ -50,11 +59,11 @@ pub record Placed (cell t m : ℕ) : Type 0 where
   pub all : (k : Label) → Labelled cell k → In m (placed (labelOf t) k)
 
 -- the CALL at the offset can be recorded in the thread with the number t
-pub record CallReady (ks s rows : List ℕ) (at t : ℕ) : Type 0 where
+pub record CallReady (rs ks s rows : List ℕ) (at t : ℕ) : Type 0 where
   pub there : at + 2 + getD ks (getD s (at + 1) 0) 0 ≤ length s
   pub routine : getD s (at + 1) 0 < length ks
   pub params : getD ks (getD s (at + 1) 0) 0 ≤ most-params
-  pub names : Low (namesAt s (at + 2) (getD ks (getD s (at + 1) 0) 0))
+  pub names : LowAt rs s (at + 2) (getD ks (getD s (at + 1) 0) 0)
   pub thread : t ≤ most-forks
   pub long : row-bytes * length ks ≤ length rows
 
@@ -76,9 +85,9 @@ abbrev pub RowGives : List ℕ → ℕ → List ℕ → Label → Option ℕ →
 RowGives rows first xs θ h m n = Below (λ i. LineGives rows (first + row-names * i) xs θ h (renamed h xs i) m) n
 
 -- n cells of a row can be recorded at a call
-pub record RowReady (s : List ℕ) (at k : ℕ) (rows : List ℕ) (first n t : ℕ) : Type 0 where
+pub record RowReady (rs s : List ℕ) (at k : ℕ) (rows : List ℕ) (first n t : ℕ) : Type 0 where
   pub there : at + k ≤ length s
   pub params : k ≤ most-params
-  pub names : Low (namesAt s at k)
+  pub names : LowAt rs s at k
   pub long : first + n ≤ length rows
   pub thread : t ≤ most-forks

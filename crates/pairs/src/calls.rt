@@ -7,7 +7,7 @@ ghost use Rattle.rules.specs.Number.{labelOf, labels};
 ghost use Rattle.rules.specs.Model as model;
 ghost use Rattle.grid.specs.Grid.{Small, Square};
 ghost use Rattle.pairs.specs.Walks.{heldBy};
-ghost use Rattle.pairs.specs.Gains.{Gains, HoldersGive, CallGives, MaskGives, Placed, Low, namesAt};
+ghost use Rattle.pairs.specs.Gains.{Gains, HoldersGive, CallGives, MaskGives, Placed, LowAt, rootsAt};
 ghost use Rattle.rows.specs.Model.{RowBits};
 ghost use Rattle.pairs.specs.Gains.{CallReady, RowReady, LineGives, RowGives};
 use crate::walk::NOTHING;
@@ -15,6 +15,7 @@ use grid::Grid;
 use grid::put_labels;
 use rules::SEVERAL_BIT;
 use rules::UNKNOWN_BIT;
+use table::limits::MOST_NAMES;
 use table::limits::ROW_BYTES;
 use table::limits::ROW_NAMES;
 use table::scope::size;
@@ -31,10 +32,10 @@ fn placed(cell: u8, thread: u8) -> u16
     own | unknown | several
 }
 
-// The caller's name for name i of a routine that is called with the k names at `at`: NOTHING for none.
-fn renamed(s: &[u8], at: usize, k: usize, holder: u8, i: usize) -> u8
-    requires { ⌜ (at + k ≤ length (now s)) × Low (namesAt (now s) at k) ⌝ }
-    ensures { λ r. ⌜ heldBy r ≡ model.renamed (heldBy holder) (namesAt (now (s .entry)) at k) i ⌝ }
+// The caller's name for name i of a routine that is called with the k names at `at`, by their roots: NOTHING for none.
+fn renamed(roots: &[u8; MOST_NAMES], s: &[u8], at: usize, k: usize, holder: u8, i: usize) -> u8
+    requires { ⌜ (at + k ≤ length (now s)) × LowAt (now roots) (now s) at k ⌝ }
+    ensures { λ r. ⌜ heldBy r ≡ model.renamed (heldBy holder) (rootsAt (now (roots .entry)) (now (s .entry)) at k) i ⌝ }
 {
     if i == 0 {
         return holder;
@@ -42,7 +43,9 @@ fn renamed(s: &[u8], at: usize, k: usize, holder: u8, i: usize) -> u8
     if k < i {
         return NOTHING;
     }
-    s[at + (i - 1)]
+    let x = s[at + (i - 1)];
+    let name = roots[size(x)];
+    name
 }
 
 // Adds the pair (a, b) to the grid in place, for each label of m with which it is kept, unless an end is nothing.
@@ -58,8 +61,8 @@ fn put_cell(g: &mut Grid, a: u8, b: u8, m: u16)
     }
 }
 
-// Adds the pair of a LOCK to the grid in place: from the holder outside it to the one inside; t is the thread. Where they
-// are the same, as where the name is in the nest already, or where one is nothing, there is no pair.
+// Adds the pair of a LOCK to the grid in place: from the holder outside it to the one inside; t is the thread. Where
+// they are the same, as where the name is in the nest already, or where one is nothing, there is no pair.
 pub fn locked(g: &mut Grid, h: u8, inside: u8, t: u8)
     requires { ⌜ (t ≤ most-forks) × Small (now g) × Square (now g) ⌝ }
     ensures gains { λ _. ⌜ Gains (now (g .entry)) (HoldersGive (heldBy h) (heldBy inside) (labelOf t))
@@ -69,10 +72,11 @@ pub fn locked(g: &mut Grid, h: u8, inside: u8, t: u8)
     put_cell(g, h, inside, 1u16 << (t as u16));
 }
 
-// Adds the pairs of a line of a called row, whose cells start at `first` and whose first end is a: the names of the call
-// stand at `at`, k of them, h is the holder and t the thread.
+// Adds the pairs of a line of a called row, whose cells start at `first` and whose first end is a: the names of the
+// call stand at `at`, k of them, `roots` has their roots, h is the holder and t the thread.
 fn put_line(
     g: &mut Grid,
+    roots: &[u8; MOST_NAMES],
     s: &[u8],
     at: usize,
     k: usize,
@@ -82,16 +86,17 @@ fn put_line(
     t: u8,
     a: u8,
 )
-    requires { ⌜ RowReady (now s) at k (now rows) first row-names t × Small (now g) × Square (now g) ⌝ }
-    ensures gains { λ _. ⌜ Gains (now (g .entry)) (LineGives (now (rows .entry)) first (namesAt (now (s .entry)) at k)
-        (labelOf t) (heldBy h) (heldBy a) (k + 1)) (now (g .exit)) ⌝ }
+    requires { ⌜ RowReady (now roots) (now s) at k (now rows) first row-names t × Small (now g) × Square (now g) ⌝ }
+    ensures gains { λ _. ⌜ Gains (now (g .entry)) (LineGives (now (rows .entry)) first
+        (rootsAt (now (roots .entry)) (now (s .entry)) at k) (labelOf t) (heldBy h) (heldBy a) (k + 1))
+        (now (g .exit)) ⌝ }
     ensures square { λ _. ⌜ Square (now (g .exit)) ⌝ }
 {
     let mut j = 0;
     while j <= k {
         let cell = rows[first + j];
         if cell != 0 {
-            let b = renamed(s, at, k, h, j);
+            let b = renamed(roots, s, at, k, h, j);
             put_cell(g, a, b, placed(cell, t));
         }
         j += 1;
@@ -99,32 +104,52 @@ fn put_line(
 }
 
 // Adds the pairs of a called row that starts at `first`: a line for each name of the routine that is something here.
-fn put_row(g: &mut Grid, s: &[u8], at: usize, k: usize, rows: &[u8], first: usize, h: u8, t: u8)
-    requires { ⌜ RowReady (now s) at k (now rows) first row-cells t × Small (now g) × Square (now g) ⌝ }
-    ensures gains { λ _. ⌜ Gains (now (g .entry)) (RowGives (now (rows .entry)) first (namesAt (now (s .entry)) at k)
-        (labelOf t) (heldBy h) (k + 1) (k + 1)) (now (g .exit)) ⌝ }
+fn put_row(
+    g: &mut Grid,
+    roots: &[u8; MOST_NAMES],
+    s: &[u8],
+    at: usize,
+    k: usize,
+    rows: &[u8],
+    first: usize,
+    h: u8,
+    t: u8,
+)
+    requires { ⌜ RowReady (now roots) (now s) at k (now rows) first row-cells t × Small (now g) × Square (now g) ⌝ }
+    ensures gains { λ _. ⌜ Gains (now (g .entry)) (RowGives (now (rows .entry)) first
+        (rootsAt (now (roots .entry)) (now (s .entry)) at k) (labelOf t) (heldBy h) (k + 1) (k + 1)) (now (g .exit)) ⌝ }
     ensures square { λ _. ⌜ Square (now (g .exit)) ⌝ }
 {
     let mut i = 0;
     while i <= k {
-        let a = renamed(s, at, k, h, i);
+        let a = renamed(roots, s, at, k, h, i);
         if a < NOTHING {
-            put_line(g, s, at, k, rows, first + ROW_NAMES * i, h, t, a);
+            put_line(g, roots, s, at, k, rows, first + ROW_NAMES * i, h, t, a);
         }
         i += 1;
     }
 }
 
 // Adds the pairs that the CALL at `at` takes from the row of its routine; h is the holder and t the thread.
-pub fn called(g: &mut Grid, ks: &[u8], s: &[u8], rows: &[u8], at: usize, h: u8, t: u8)
-    requires { ⌜ CallReady (now ks) (now s) (now rows) at t × Small (now g) × Square (now g) ⌝ }
+pub fn called(
+    g: &mut Grid,
+    roots: &[u8; MOST_NAMES],
+    ks: &[u8],
+    s: &[u8],
+    rows: &[u8],
+    at: usize,
+    h: u8,
+    t: u8,
+)
+    requires { ⌜ CallReady (now roots) (now ks) (now s) (now rows) at t × Small (now g) × Square (now g) ⌝ }
     ensures gains { λ _. ⌜ Gains (now (g .entry)) (CallGives (RowBits (now (rows .entry)))
         (getD (now (s .entry)) (at + 1) 0)
-        (namesAt (now (s .entry)) (at + 2) (getD (now (ks .entry)) (getD (now (s .entry)) (at + 1) 0) 0))
+        (rootsAt (now (roots .entry)) (now (s .entry)) (at + 2)
+        (getD (now (ks .entry)) (getD (now (s .entry)) (at + 1) 0) 0))
         (labelOf t) (heldBy h)) (now (g .exit)) ⌝ }
     ensures square { λ _. ⌜ Square (now (g .exit)) ⌝ }
 {
     let r = size(s[at + 1]);
     let k = size(ks[r]);
-    put_row(g, s, at + 2, k, rows, ROW_BYTES * r, h, t);
+    put_row(g, roots, s, at + 2, k, rows, ROW_BYTES * r, h, t);
 }

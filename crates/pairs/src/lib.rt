@@ -1,7 +1,7 @@
 // The walk over a body that was accepted: the routines that it calls, and the pairs that it records.
 ghost use mathlib.Core.Path.{_≡_};
 ghost use mathlib.Core.Logic.{_⊎_};
-ghost use Prim.Native.Nat.{_*_, _<_, _≤_};
+ghost use Prim.Native.Nat.{ℕ, _*_, _<_, _≤_};
 ghost use lib.ListN.{length};
 ghost use Rattle.table.specs.Constants.{most-routines, row-bytes};
 ghost use Rattle.grid.specs.Rows.{Has, Bits};
@@ -16,6 +16,7 @@ use calls::called;
 use calls::locked;
 use grid::Grid;
 use table::limits::CALL;
+use table::limits::END;
 use table::limits::LOCK;
 use walk::LEVELS;
 use walk::Place;
@@ -23,6 +24,7 @@ use walk::holder_inside;
 use walk::level;
 use walk::over;
 use walk::past;
+use walk::selves;
 use walk::step;
 
 // What scanning a body gives: the offset after it, and the routines that its calls name, as bits.
@@ -41,7 +43,7 @@ fn with_call(calls: u64, q: u8) -> u64
 
 // Scans the body at `at`.
 pub fn scan(ks: &[u8], s: &[u8], at: usize) -> Scanned
-    requires { ⌜ IsBody (now ks) (now s) at × (length (now ks) ≤ most-routines) ⌝ }
+    requires { ⌜ ((k : ℕ) × IsBody (now ks) k (now s) at) × (length (now ks) ≤ most-routines) ⌝ }
     ensures { λ r. ⌜ Scans (now (ks .entry)) (now (s .entry)) at (r .next) (r .calls) ⌝ }
 {
     let mut i = at;
@@ -63,45 +65,54 @@ pub fn scan(ks: &[u8], s: &[u8], at: usize) -> Scanned
     }
 }
 
-// The grid g with the pairs that the body at `at` records, where `rows` has the rows of the routines.
-pub fn recorded(mut g: Grid, ks: &[u8], s: &[u8], at: usize, rows: &[u8]) -> Grid
-    requires { ⌜ IsBody (now ks) (now s) at × (row-bytes * length (now ks) ≤ length (now rows)) × Small g ⌝ }
-    ensures { λ r. ⌜ Records (now (ks .entry)) (now (s .entry)) at (now (rows .entry)) g r ⌝ }
+// The grid g with the pairs that the body at `at`, of a routine with k parameters, records, where `rows` has the rows
+// of the routines.
+pub fn recorded(mut g: Grid, ks: &[u8], k: u8, s: &[u8], at: usize, rows: &[u8]) -> Grid
+    requires { ⌜ IsBody (now ks) k (now s) at × (row-bytes * length (now ks) ≤ length (now rows)) × Small g ⌝ }
+    ensures { λ r. ⌜ Records (now (ks .entry)) k (now (s .entry)) at (now (rows .entry)) g r ⌝ }
 {
     let mut holders = [0u8; LEVELS];
     let mut threads = [0u8; LEVELS];
     let mut nests = [0u16; LEVELS];
+    let mut roots = selves();
     let mut p = Place {
         at: at,
         forks: 0,
+        last: k,
         top: 0,
     };
     loop {
         let i = p.at;
         let n = p.top;
         let b = s[i];
-        if over(b, n) {
-            return g;
+        if b == END {
+            if n == 0 {
+                return g;
+            }
+            p.at = i + 1;
+            p.top = n - 1;
+        } else {
+            let h = holders[n];
+            let t = threads[n];
+            let m = nests[n];
+            let inside = holder_inside(&roots, s, i, b, h, m);
+            if b == LOCK {
+                locked(&mut g, h, inside, t);
+            } else if b == CALL {
+                called(&mut g, &roots, ks, s, rows, i, h, t);
+            }
+            p = step(
+                ks,
+                s,
+                p,
+                inside,
+                t,
+                m,
+                &mut holders,
+                &mut threads,
+                &mut nests,
+                &mut roots,
+            );
         }
-        let h = holders[n];
-        let t = threads[n];
-        let m = nests[n];
-        let inside = holder_inside(s, i, b, h, m);
-        if b == LOCK {
-            locked(&mut g, h, inside, t);
-        } else if b == CALL {
-            called(&mut g, ks, s, rows, i, h, t);
-        }
-        p = step(
-            ks,
-            s,
-            p,
-            inside,
-            t,
-            m,
-            &mut holders,
-            &mut threads,
-            &mut nests,
-        );
     }
 }

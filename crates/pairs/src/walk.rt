@@ -1,17 +1,19 @@
 // The walk over a body's bytes: a place, and what holds there at each open level.
 ghost use mathlib.Core.Path.{_≡_};
-ghost use Prim.Native.Nat.{_≤_, _<_};
+ghost use Prim.Native.Nat.{_+_, _≤_, _<_};
 ghost use Rattle.table.specs.Constants.{most-names, most-open};
-ghost use Rattle.pairs.specs.Walks.{walkOf, inNest, withName, holderUnder, pastItem, topBy};
-ghost use Rattle.pairs.specs.Walks.{enteredWalk, nextWalk, holderInside, LockReady, Given};
+ghost use Rattle.pairs.specs.Walks.{walkOf, rootOf, Selves, inNest, withName, holderUnder, pastItem, topBy};
+ghost use Rattle.pairs.specs.Walks.{Enters, AddsLocal, nextWalk, holderInside, LockReady, Given};
 ghost use Rattle.pairs.specs.Walks.{IsOver, Passable, LevelReady, Ready};
 use table::limits::CALL;
 use table::limits::CHOICE;
 use table::limits::END;
 use table::limits::FORK;
 use table::limits::LOCK;
+use table::limits::MIRROR;
 use table::limits::MOST_NAMES;
 use table::limits::MOST_OPEN;
+use table::limits::NEW;
 use table::scope::size;
 
 // How many levels there are: the body, and the blocks that may be open at one time.
@@ -20,11 +22,26 @@ pub const LEVELS: usize = MOST_OPEN as usize + 1;
 // What stands for no name where a holder is due.
 pub const NOTHING: u8 = MOST_NAMES as u8;
 
-// A place of a body: the offset, how many FORK stand before it, and the innermost open level (the body is level 0).
+// A place of a body: the offset, how many FORK stand before it, the last name that the routine has so far, and the
+// innermost open level (the body is level 0).
 pub struct Place {
     pub at: usize,
     pub forks: u8,
+    pub last: u8,
     pub top: usize,
+}
+
+// Each name as its own root.
+pub fn selves() -> [u8; MOST_NAMES]
+    ensures { λ r. ⌜ Selves r ⌝ }
+{
+    let mut roots = [0u8; MOST_NAMES];
+    let mut x = 0usize;
+    while x < MOST_NAMES {
+        roots[x] = x as u8;
+        x += 1;
+    }
+    roots
 }
 
 // Whether the item with code b is the END of the body, where `top` is the innermost open level.
@@ -40,7 +57,7 @@ pub fn past(ks: &[u8], s: &[u8], at: usize) -> usize
     ensures { λ r. ⌜ r ≡ pastItem (now (ks .entry)) (now (s .entry)) at ⌝ }
 {
     match s[at] {
-        LOCK => at + 2,
+        LOCK | MIRROR => at + 2,
         CALL => {
             let r = size(s[at + 1]);
             at + 2 + size(ks[r])
@@ -77,21 +94,23 @@ fn with_name(nest: u16, x: u8) -> u16
     nest | (1u16 << (x as u16))
 }
 
-// The holder inside LOCK x, where h is the one outside it: the same, where the name is in the nest already.
-fn holder_under(nest: u16, h: u8, x: u8) -> u8
+// The holder inside LOCK x, where h is the one outside it: the same, where the name is in the nest already, else the
+// root of the name.
+fn holder_under(roots: &[u8; MOST_NAMES], nest: u16, h: u8, x: u8) -> u8
     requires { ⌜ x < most-names ⌝ }
-    ensures { λ r. ⌜ r ≡ holderUnder nest h x ⌝ }
+    ensures { λ r. ⌜ r ≡ holderUnder nest h x (rootOf (now (roots .entry)) x) ⌝ }
 {
-    if in_nest(nest, x) { h } else { x }
+    let root = roots[size(x)];
+    if in_nest(nest, x) { h } else { root }
 }
 
 // The holder inside the item with code b at `at`, a FORK excepted, where h is the one outside it.
-pub fn holder_inside(s: &[u8], at: usize, b: u8, h: u8, nest: u16) -> u8
+pub fn holder_inside(roots: &[u8; MOST_NAMES], s: &[u8], at: usize, b: u8, h: u8, nest: u16) -> u8
     requires { ⌜ LockReady (now s) at b ⌝ }
-    ensures { λ r. ⌜ r ≡ holderInside (now (s .entry)) at b h nest ⌝ }
+    ensures { λ r. ⌜ r ≡ holderInside (now (roots .entry)) (now (s .entry)) at b h nest ⌝ }
 {
     if b == LOCK {
-        holder_under(nest, h, s[at + 1])
+        holder_under(roots, nest, h, s[at + 1])
     } else {
         h
     }
@@ -109,8 +128,8 @@ fn entered(
     nests: &mut [u16; LEVELS],
 ) -> Place
     requires { ⌜ p .top ≤ most-open ⌝ }
-    ensures { λ r. ⌜ walkOf r (now (holders .exit)) (now (threads .exit)) (now (nests .exit)) ≡ enteredWalk
-        (walkOf p (now (holders .entry)) (now (threads .entry)) (now (nests .entry))) forks holder thread nest ⌝ }
+    ensures { λ r. ⌜ Enters p (now (holders .entry)) (now (threads .entry)) (now (nests .entry)) forks holder thread
+        nest r (now (holders .exit)) (now (threads .exit)) (now (nests .exit)) ⌝ }
 {
     let n = p.top;
     holders[n] = holder;
@@ -119,13 +138,30 @@ fn entered(
     Place {
         at: p.at,
         forks: forks,
+        last: p.last,
         top: n,
+    }
+}
+
+// The place with one local more, whose root is written to the array.
+fn with_local(p: Place, root: u8, roots: &mut [u8; MOST_NAMES]) -> Place
+    requires { ⌜ p .last + 1 < most-names ⌝ }
+    ensures { λ r. ⌜ AddsLocal p (now (roots .entry)) root r (now (roots .exit)) ⌝ }
+{
+    let x = p.last + 1;
+    roots[size(x)] = root;
+    Place {
+        at: p.at,
+        forks: p.forks,
+        last: x,
+        top: p.top,
     }
 }
 
 // The place past the item at p, where the holder inside the item, as of `holder_inside`, the thread and the nest are
 // given. The arrays have the holder (a name or NOTHING), the thread (a label number) and the nest (a mask of names) of
-// each open level: where the item opens one, its entries are written.
+// each open level: where the item opens one, its entries are written. `roots` has the root of each name: where the item
+// gives a name, its root is written, for a MIRROR that of the name that it mirrors.
 pub fn step(
     ks: &[u8],
     s: &[u8],
@@ -136,12 +172,13 @@ pub fn step(
     holders: &mut [u8; LEVELS],
     threads: &mut [u8; LEVELS],
     nests: &mut [u16; LEVELS],
+    roots: &mut [u8; MOST_NAMES],
 ) -> Place
-    requires { ⌜ Ready (now ks) (now s) (walkOf p (now holders) (now threads) (now nests))
-        × Given (now s) (walkOf p (now holders) (now threads) (now nests)) inside thread nest ⌝ }
-    ensures { λ r. ⌜ walkOf r (now (holders .exit)) (now (threads .exit)) (now (nests .exit)) ≡ nextWalk
-        (now (ks .entry)) (now (s .entry))
-        (walkOf p (now (holders .entry)) (now (threads .entry)) (now (nests .entry))) ⌝ }
+    requires { ⌜ Ready (now ks) (now s) (walkOf p (now holders) (now threads) (now nests) (now roots))
+        × Given (now s) (walkOf p (now holders) (now threads) (now nests) (now roots)) inside thread nest ⌝ }
+    ensures { λ r. ⌜ walkOf r (now (holders .exit)) (now (threads .exit)) (now (nests .exit)) (now (roots .exit))
+        ≡ nextWalk (now (ks .entry)) (now (s .entry))
+        (walkOf p (now (holders .entry)) (now (threads .entry)) (now (nests .entry)) (now (roots .entry))) ⌝ }
 {
     let i = p.at;
     let b = s[i];
@@ -149,6 +186,7 @@ pub fn step(
     let q = Place {
         at: past(ks, s, i),
         forks: forks,
+        last: p.last,
         top: level(b, p.top),
     };
     match b {
@@ -158,6 +196,12 @@ pub fn step(
         }
         FORK => entered(q, forks + 1, NOTHING, forks + 1, 0, holders, threads, nests),
         CHOICE => entered(q, forks, inside, thread, nest, holders, threads, nests),
+        NEW => with_local(q, p.last + 1, roots),
+        MIRROR => {
+            let y = s[i + 1];
+            let root = roots[size(y)];
+            with_local(q, root, roots)
+        }
         _ => q,
     }
 }

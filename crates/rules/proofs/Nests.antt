@@ -19,10 +19,10 @@ use Rattle.rules.specs.laws.Judge.{is-clear, is-ring-at}
 use Rattle.rules.proofs.Readings.{routine, table-g, clear-g}
 
 -- the body of routine r records the pairs of the list, and no others
-abbrev Records : Program → ℕ → List Pair → Type 0
+abbrev pub Records : Program → ℕ → List Pair → Type 0
 Records P r ps = (a b : ℕ) (l : Label) → Found (pair a b l) ps (Recorded P (body P r) atHead a b l)
 
-records : (P : Program) (r : ℕ) (ps : List Pair) → T (settled? P) → recordedOf P r ≡ ps → Records P r ps
+pub records : (P : Program) (r : ℕ) (ps : List Pair) → T (settled? P) → recordedOf P r ≡ ps → Records P r ps
 records P r ps t e a b l = rw (← e) (is-recorded-by P t r a b l)
 
 -- routine 0 runs the code with three locks, and routine 1 locks its parameter
@@ -36,7 +36,8 @@ in-1 c = lock 1 c end
 abbrev in-1-2 : Code → Code
 in-1-2 c = in-1 (lock 2 c end)
 
--- a lock taken again: h inside is the one outside, so that LOCK 3 records (2, 3), and (2, 1) and (1, 3) are not recorded
+-- a lock taken again: h inside is the one outside, so that LOCK 3 records (2, 3), and (2, 1) and (1, 3) are not
+-- recorded
 taken-again : Records (nesting (in-1-2 (in-1 (lock 3 end end)))) 0 (pair 0 1 own ∷ pair 1 2 own ∷ pair 2 3 own ∷ [])
 unfolding ℕ-discrete
 taken-again = records (nesting (in-1-2 (in-1 (lock 3 end end)))) 0 _ tt refl
@@ -91,7 +92,8 @@ unfolding ℕ-discrete
 passed-twice = records (routine 0 (new 1 (call 1 (1 ∷ 1 ∷ []) end)) ∷ routine 2 (in-1-2 end) ∷ []) 1 _ tt refl
 
 -- a name is in the nest no longer than its block is open
-closed-again : Records (nesting (lock 1 end (lock 2 (in-1 end) end))) 0 (pair 0 1 own ∷ pair 0 2 own ∷ pair 2 1 own ∷ [])
+closed-again :
+    Records (nesting (lock 1 end (lock 2 (in-1 end) end))) 0 (pair 0 1 own ∷ pair 0 2 own ∷ pair 2 1 own ∷ [])
 unfolding ℕ-discrete
 closed-again = records (nesting (lock 1 end (lock 2 (in-1 end) end))) 0 _ tt refl
 
@@ -109,7 +111,8 @@ chosen-again =
     records (nesting (in-1 (choice (lock 2 (in-1 end) end) (lock 3 (in-1 (lock 2 end end)) end) end))) 0 _ tt refl
 
 chosen-apart :
-    Records (nesting (choice (in-1 end) (lock 2 (in-1 end) end) end)) 0 (pair 0 1 own ∷ pair 0 2 own ∷ pair 2 1 own ∷ [])
+    Records (nesting (choice (in-1 end) (lock 2 (in-1 end) end) end)) 0
+    (pair 0 1 own ∷ pair 0 2 own ∷ pair 2 1 own ∷ [])
 unfolding ℕ-discrete
 chosen-apart = records (nesting (choice (in-1 end) (lock 2 (in-1 end) end) end)) 0 _ tt refl
 
@@ -169,7 +172,8 @@ not-kept q n (inr e) = n (cc)
 
 recorded-e :
     (r a b : ℕ) (l : Label)
-    → RecordedBefore (RowOf table-e FromZero) (body table-e r) own (some 0) a b l → Kept a b l → FromZero r a b l
+    → RecordedBefore (RowOf table-e FromZero) (body table-e r) own (λ x. x) (some 0) a b l → Kept a b l
+    → FromZero r a b l
 recorded-e zero a b l (inl (inl q)) k = absurd (Option·none-ne-some a (q .0))
 recorded-e zero a b l (inl (inr (inl (inl q)))) k =
     absurd (not-kept q (λ e. let z : _≡_ {A = ℕ} 0 1 = cc in omega arith) k)

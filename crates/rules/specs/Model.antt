@@ -2,11 +2,12 @@
 use mathlib.Core.Path.{_≡_}
 use mathlib.Core.Logic.{_≢_, _⊎_}
 use mathlib.Core.Bool.{cond}
-use mathlib.Core.List.{List, [], _∷_}
+use mathlib.Core.List.{List, [], _∷_, map}
 use mathlib.Core.Option.{Option, none, some}
 use Prim.Native.Nat.{ℕ, zero, suc, _≤_}
+use lib.Dec.{eqb}
 use lib.ListN.{getElem?}
-use Rattle.table.specs.Program.{Code, new, lock, fork, choice, call, Program, params, body}
+use Rattle.table.specs.Program.{Code, new, lock, fork, choice, call, mirror, Program, params, body}
 use Rattle.table.specs.WellFormed.{In}
 use Rattle.table.specs.Check.{in?}
 use Rattle.rules.specs.Label.{Label, own, forked, several, combine, cut, placed}
@@ -20,38 +21,48 @@ abbrev pub renamed : Option ℕ → List ℕ → ℕ → Option ℕ
 renamed h xs zero = h
 renamed h xs (suc i) = getElem? xs i
 
--- a place in a body: its thread, its holder h (none for nothing), and its nest, the names of the LOCK blocks of that
--- thread that are open there in this body
+-- a place in a body: its thread, the root of each name in scope (the parameter or NEW name behind its mirrors), its
+-- holder h (none for nothing), and its nest, the names, as written, of the LOCK blocks of that thread that are open
+-- there in this body
 pub record Place : Type 0 where
   pub thread : Label
+  pub roots : ℕ → ℕ
   pub holder : Option ℕ
   pub nest : List ℕ
 
--- the head of a body: the running thread, with name 0 as its holder and an empty nest
+-- the head of a body: the running thread, each name its own root, name 0 as the holder, and an empty nest
 abbrev pub atHead : Place
-atHead = record { thread = own; holder = some 0; nest = [] }
+atHead = record { thread = own; roots = λ x. x; holder = some 0; nest = [] }
 
--- the place with x as its holder, and x put into its nest
+-- f with z for x: what roots, and in a run locks, are once a NEW or MIRROR has given the name x
+abbrev pub bind : ℕ → ℕ → (ℕ → ℕ) → ℕ → ℕ
+bind x z f y = cond (eqb y x) z (f y)
+
+-- the place after a NEW or MIRROR that gives the name x, with the root z
+abbrev pub naming : ℕ → ℕ → Place → Place
+naming x z w = record { thread = w .thread; roots = bind x z (w .roots); holder = w .holder; nest = w .nest }
+
+-- the place with the root of x as its holder, and x put into its nest
 abbrev pub nested : ℕ → Place → Place
-nested x w = record { thread = w .thread; holder = some x; nest = x ∷ w .nest }
+nested x w = record { thread = w .thread; roots = w .roots; holder = some (w .roots x); nest = x ∷ w .nest }
 
--- the head of the block of LOCK x: the place outside where x is in its nest already, else x is the holder and nested
+-- the head of the block of LOCK x: the place outside where x is in its nest already, else x is nested
 abbrev pub underLock : ℕ → Place → Place
 underLock x w = cond (in? x (w .nest)) w (nested x w)
 
 -- the head of the block of FORK i: that thread, with nothing as its holder and an empty nest, whatever is held outside
-abbrev pub underFork : ℕ → Place
-underFork i = record { thread = forked i; holder = none; nest = [] }
+abbrev pub underFork : ℕ → Place → Place
+underFork i w = record { thread = forked i; roots = w .roots; holder = none; nest = [] }
 
 -- Recorded P c w a b l: the code c, at the place w, records the pair (a, b) labelled l. A LOCK on a name of the nest
 -- records nothing itself (at-lock). Model P r a b l: the pair is among those worked out in the body of routine r.
 mutual
   pub data Recorded (P : Program) : Code → Place → ℕ → ℕ → Label → Type 0 where
     in-new : {x : ℕ} {c : Code} {w : Place} {a b : ℕ} {l : Label}
-        → Recorded P c w a b l
+        → Recorded P c (naming x x w) a b l
         → Recorded P (new x c) w a b l
     at-lock : {x : ℕ} {c d : Code} {w : Place} {a b : ℕ} {l : Label}
-        → ¬ In x (w .nest) → w .holder ≡ some a → b ≡ x → l ≡ w .thread
+        → ¬ In x (w .nest) → w .holder ≡ some a → b ≡ w .roots x → l ≡ w .thread
         → Recorded P (lock x c d) w a b l
     in-lock : {x : ℕ} {c d : Code} {w : Place} {a b : ℕ} {l : Label}
         → Recorded P c (underLock x w) a b l
@@ -60,7 +71,7 @@ mutual
         → Recorded P d w a b l
         → Recorded P (lock x c d) w a b l
     in-fork : {i : ℕ} {c d : Code} {w : Place} {a b : ℕ} {l : Label}
-        → Recorded P c (underFork i) a b l
+        → Recorded P c (underFork i w) a b l
         → Recorded P (fork i c d) w a b l
     after-fork : {i : ℕ} {c d : Code} {w : Place} {a b : ℕ} {l : Label}
         → Recorded P d w a b l
@@ -76,11 +87,15 @@ mutual
         → Recorded P (choice u v c) w a b l
     at-call : {r : ℕ} {xs : List ℕ} {c : Code} {w : Place} {a b a₀ b₀ : ℕ} {l m : Label}
         → Model P r a₀ b₀ m → a₀ ≤ params P r → b₀ ≤ params P r → a₀ ≢ b₀
-        → renamed (w .holder) xs a₀ ≡ some a → renamed (w .holder) xs b₀ ≡ some b → l ≡ placed (w .thread) (cut m)
+        → renamed (w .holder) (map (w .roots) xs) a₀ ≡ some a → renamed (w .holder) (map (w .roots) xs) b₀ ≡ some b
+        → l ≡ placed (w .thread) (cut m)
         → Recorded P (call r xs c) w a b l
     after-call : {r : ℕ} {xs : List ℕ} {c : Code} {w : Place} {a b : ℕ} {l : Label}
         → Recorded P c w a b l
         → Recorded P (call r xs c) w a b l
+    in-mirror : {x y : ℕ} {c : Code} {w : Place} {a b : ℕ} {l : Label}
+        → Recorded P c (naming x (w .roots y) w) a b l
+        → Recorded P (mirror x y c) w a b l
 
   pub data Model (P : Program) : ℕ → ℕ → ℕ → Label → Type 0 where
     records : {r a b : ℕ} {l : Label} → Recorded P (body P r) atHead a b l → Kept a b l → Model P r a b l

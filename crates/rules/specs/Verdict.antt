@@ -2,7 +2,7 @@
 use mathlib.Core.Path.{_≡_}
 use mathlib.Core.Logic.{_⊎_}
 use Prim.Native.Nat.{ℕ, _≤_}
-use Rattle.table.specs.Program.{Code, end, new, lock, fork, choice, call, Program, body}
+use Rattle.table.specs.Program.{Code, end, new, lock, fork, choice, call, mirror, Program, body}
 use Rattle.rules.specs.Model.{Ring}
 
 -- a CALL anywhere in the code names routine q
@@ -13,6 +13,7 @@ Calls (lock x c d) q = Calls c q ⊎ Calls d q
 Calls (fork i c d) q = Calls c q ⊎ Calls d q
 Calls (choice a b c) q = Calls a q ⊎ (Calls b q ⊎ Calls c q)
 Calls (call r xs c) q = (q ≡ r) ⊎ Calls c q
+Calls (mirror x y c) q = Calls c q
 
 -- routine 0 is reached, and so is each routine that a reached one calls
 pub data Reached (P : Program) : ℕ → Type 0 where

@@ -12,5 +12,6 @@ pub mod Before101
 pub mod Table
 pub mod Number
 pub mod Before103
+pub mod Before104
 pub mod Certificate
 pub mod Judge

@@ -3,19 +3,16 @@ use mathlib.Core.Path.{_≡_, refl}
 use mathlib.Core.Logic.{_≢_, _⊎_}
 use mathlib.Core.List.{List, [], _∷_, _++_}
 use Prim.Native.Nat.{ℕ, zero, suc}
-use native.Mathlib.Decide.{ℕ-discrete}
 use lib.ListN.{getD, set}
-use Rattle.table.specs.Program.{Code, end, new, lock, fork, choice, call, Program, body}
+use Rattle.table.specs.Program.{Code, end, new, lock, fork, choice, call, mirror, Program, body}
 use Rattle.table.specs.WellFormed.{In, NoDup}
+use Rattle.rules.specs.Model.{bind}
 use Rattle.run.specs.Decide.{elsewhere?}
 
--- the lock that each name in scope stands for; a name out of scope is never asked for
+-- the lock that each name in scope stands for; a name out of scope is never asked for. `bind` of `Model.antt` gives a
+-- name its lock.
 abbrev pub Env : Type 0
 Env = ℕ → ℕ
-
--- after a NEW: the name x stands for the lock l, and every other name for what it stood for
-unfoldable pub bind : ℕ → ℕ → Env → Env
-bind x l e y = elim (ℕ-discrete y x) [ yes p ↦ l | no n ↦ e y ]
 
 -- in a called routine: parameter i has the lock that the i-th name in the CALL has at the caller
 abbrev pub pass : List ℕ → Env → Env
@@ -91,6 +88,7 @@ step P s t a (at (fork i c d) e fs) =
 step P s t first (at (choice c d g) e fs) = put s t (at c e (frame alternative e g ∷ fs))
 step P s t second (at (choice c d g) e fs) = put s t (at d e (frame alternative e g ∷ fs))
 step P s t a (at (call r xs c) e fs) = put s t (at (body P r) (pass xs e) (frame called e c ∷ fs))
+step P s t a (at (mirror x y c) e fs) = put s t (at c (bind x (e y) e) fs)
 
 -- a turn: the number of a thread, and the alternative to take if its next item is a CHOICE
 abbrev pub Turn : Type 0

@@ -7,6 +7,7 @@ pub mod Places
 pub mod Steps
 pub mod Always
 pub mod Turns
+pub mod Mirrors
 pub mod Chain
 pub mod Tree
 pub mod Circle

@@ -5,7 +5,8 @@ use mathlib.Core.List.{List, [], _∷_, _++_, map}
 use Prim.Native.Nat.{ℕ, zero, suc, _+_, _-_, _/_}
 use lib.ListN.{length, replicate}
 use Rattle.table.specs.Constants.{most-forks}
-use Rattle.table.specs.Program.{Code, end, new, lock, fork, choice, call, Program, programItems}
+use Rattle.table.specs.Program.{Code, end, new, lock, fork, choice, call, mirror, Program}
+use Rattle.table.specs.Program.{programItems}
 use Rattle.table.specs.Encoding.{twoBytes, encodeTable}
 use Rattle.table.specs.Check.{refused, accepted, checkTable, blockBy, block}
 use Rattle.table.specs.Answer.{checkedOf}
@@ -104,6 +105,20 @@ above-full : checkTable (one (1 ∷ calling 4096)) ≡ refused 5
 unfolding block blockBy
 above-full = refl
 
+-- a MIRROR takes the next name, which leaves the scope with its block; a mirror of a mirror
+mirrors : checkTable (one (1 ∷ 2 ∷ 1 ∷ 7 ∷ 1 ∷ 2 ∷ 2 ∷ 0 ∷ 0 ∷ 7 ∷ 1 ∷ 7 ∷ 3 ∷ 1 ∷ 2 ∷ 5 ∷ 0 ∷ 0 ∷ []))
+    ≡ accepted
+    (single (new 1 (lock 1 (mirror 2 1 (lock 2 end end)) (mirror 3 1 (mirror 4 3 (new 5 (lock 5 end end)))))))
+unfolding block blockBy
+mirrors = refl
+
+-- eight NEW and MIRROR together pass
+eight-locals : checkTable (one (replicate 3 1 ++ (repeated 5 (7 ∷ 1 ∷ []) ++ (0 ∷ []))))
+    ≡ accepted
+    (single (new 1 (new 2 (new 3 (mirror 4 1 (mirror 5 1 (mirror 6 1 (mirror 7 1 (mirror 8 1 end)))))))))
+unfolding block blockBy
+eight-locals = refl
+
 -- a table, and the refusal that it gets
 pub record Case : Type 0 where
   pub table : List ℕ
@@ -124,19 +139,23 @@ refusals = gets [] 1
     ∷ gets (1 ∷ 0 ∷ 2 ∷ 0 ∷ 0 ∷ []) 6
     ∷ gets (1 ∷ 0 ∷ 1 ∷ 0 ∷ 0 ∷ 0 ∷ []) 6
     ∷ gets (one (1 ∷ [])) 7
-    ∷ gets (one (7 ∷ 0 ∷ [])) 8
+    ∷ gets (one (8 ∷ 0 ∷ [])) 8
     ∷ gets (one (5 ∷ 0 ∷ [])) 9
     ∷ gets (one (4 ∷ 0 ∷ 0 ∷ 0 ∷ [])) 9
     ∷ gets (one (1 ∷ (repeated 17 (2 ∷ 1 ∷ []) ++ replicate 18 0))) 10
     ∷ gets (one (replicate 9 1 ++ (0 ∷ []))) 11
     ∷ gets (one (repeated (most-forks + 1) (3 ∷ 0 ∷ []) ++ (0 ∷ []))) 11
+    ∷ gets (one (replicate 4 1 ++ (repeated 5 (7 ∷ 1 ∷ []) ++ (0 ∷ [])))) 11
+    ∷ gets (one (replicate 8 1 ++ (7 ∷ 1 ∷ 0 ∷ []))) 11
     ∷ gets (one (6 ∷ 1 ∷ 0 ∷ [])) 12
     ∷ gets (one (1 ∷ 2 ∷ 2 ∷ 0 ∷ 0 ∷ [])) 13
     ∷ gets (2 ∷ 0 ∷ 2 ∷ 5 ∷ 0 ∷ 1 ∷ 6 ∷ 1 ∷ 1 ∷ 0 ∷ []) 13
+    ∷ gets (one (1 ∷ 7 ∷ 2 ∷ 0 ∷ [])) 13
     ∷ gets (one (0 ∷ 0 ∷ [])) 14 ∷ []
 
 -- Two grounds compete: 2 and 3; 3 and 4; 4 and 5; 5 and 6; 9 and 7, by byte order; a seventeenth block with a bad name;
--- a seventeenth block that is a FORK too many; a missing routine byte; a missing name; a stray END in a second body.
+-- a seventeenth block that is a FORK too many; a missing routine byte; a missing name; a ninth local that
+-- mirrors a name out of scope, and one that mirrors none; a MIRROR without its name; a stray END in a second body.
 abbrev competing : List Case
 competing = gets (65 ∷ []) 2
     ∷ gets (2 ∷ 8 ∷ 9 ∷ 1 ∷ []) 3
@@ -147,6 +166,9 @@ competing = gets (65 ∷ []) 2
     ∷ gets (one (repeated most-forks (3 ∷ 0 ∷ []) ++ (replicate 16 4 ++ (3 ∷ [])))) 10
     ∷ gets (one (6 ∷ [])) 12
     ∷ gets (one (1 ∷ 2 ∷ [])) 13
+    ∷ gets (one (replicate 8 1 ++ (7 ∷ 9 ∷ []))) 11
+    ∷ gets (one (replicate 8 1 ++ (7 ∷ []))) 11
+    ∷ gets (one (1 ∷ 7 ∷ [])) 13
     ∷ gets (2 ∷ 0 ∷ 0 ∷ 3 ∷ 0 ∷ 0 ∷ 0 ∷ 0 ∷ []) 14 ∷ []
 
 each-refused : map (λ c. checkTable (c .table)) (refusals ++ competing) ≡ map (λ c. refused (c .refusal))

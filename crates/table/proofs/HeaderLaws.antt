@@ -50,7 +50,7 @@ mask-fits k l = let g : 2 ^ 1 ≤ 2 ^ (k + 1) = grows 1 (k + 1) (omega arith) in
 pub head-ready : (at k i : ℕ) → k ≤ most-params → i ≤ at → Ready at k (mask k) (fresh i)
 head-ready at k i l h = record {
   few-params = l;
-  few-news = omega arith;
+  few-locals = omega arith;
   few-forks = omega arith;
   below = below;
   few-items = h;
@@ -68,7 +68,8 @@ head-place k i l = ap {B = Place} (λ (v : List ℕ). record { own = k; scope = 
 
 -- the block that the code reads at the head of a body is the body
 head-block : (ks s : List ℕ) (at k i : ℕ) → k ≤ most-params
-    → block ks most-open false (placeOf k (mask k) (fresh i)) (drop at s) ≡ block ks most-open false (atHead k) (drop at s)
+    → block ks most-open false (placeOf k (mask k) (fresh i)) (drop at s)
+    ≡ block ks most-open false (atHead k) (drop at s)
 head-block ks s at k i l = ap (λ (w : Place). block ks most-open false w (drop at s)) (head-place k i l)
 
 pub body-is : (ks s : List ℕ) (at k i : ℕ) → k ≤ most-params

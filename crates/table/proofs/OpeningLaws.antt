@@ -2,66 +2,63 @@
 use mathlib.Core.Path.{_≡_, refl, sym, ap, _∙_}
 use mathlib.Core.Bool.{Bool, true, false, cond}
 use mathlib.Core.List.{List, [], _∷_}
-use mathlib.Core.Option.{Option, none}
+use mathlib.Core.Option.{none}
 use Prim.Native.Nat.{ℕ, zero, suc, _+_, _-_, _*_, _%_, _^_, _≤_, _<_}
 use native.Mathlib.Numerals.{add-one}
 use native.Mathlib.Omega.{arith}
 use lib.Dec.{leb}
-use lib.ListN.{length, getD, take, drop, length-drop, drop-of-length-le}
+use lib.ListN.{length, getD, drop, length-drop, drop-of-length-le}
 use lib.Seq.{drop-cons}
 use borrow.Author.Tests.{lt-leb, le-leb, eq-eqb, ne-eqb}
-use Rattle.table.specs.Constants.{most-params, most-news, most-forks}
-use Rattle.table.specs.Constants.{Op, END, NEW, LOCK, FORK, CHOICE, OTHER, CALL, code, opOf}
+use Rattle.table.specs.Constants.{most-params, most-locals, most-forks}
+use Rattle.table.specs.Constants.{Op, END, NEW, LOCK, FORK, CHOICE, OTHER, CALL, MIRROR, code, opOf}
 use Rattle.table.specs.Program.{Code}
-use Rattle.table.specs.Check.{Item, aLock, aFork, aChoice, aCall, Place, past, starting, Block, ok, bad}
-use Rattle.table.specs.Check.{Head, more, closed, wrong, opened, in?, named, callItem, itemIf, itemOf, block}
-use Rattle.table.specs.Check.{item}
+use Rattle.table.specs.Check.{Item, aLock, aFork, aChoice, Place, past, starting, Block, ok, bad}
+use Rattle.table.specs.Check.{Head, more, closed, wrong, opened, in?, named, callItem, itemIf, block}
+use Rattle.table.specs.Check.{mirrorItem, item}
 use Rattle.table.specs.laws.Cases.{cond-cases}
 use Rattle.table.specs.laws.Sound.{named-fit}
 use Rattle.table.specs.laws.ScopeMask.{bits, grows, shift-one}
-use Rattle.table.specs.laws.Readers.{placeOf, withItem, withNew, withFork, countsPast, countsAfter, scopeAfter}
-use Rattle.table.specs.laws.Readers.{readOf, headOf, blockAnswer, itemAnswer, afterBlock, afterFirst, finished}
-use Rattle.table.specs.laws.Readers.{Ready, CanRead, Opens, callOf, callAnswer}
+use Rattle.table.specs.laws.Readers.{placeOf, withItem, withLocal, withFork, countsPast, countsAfter, scopeAfter}
+use Rattle.table.specs.laws.Readers.{readOf, headOf, itemAnswer, afterBlock, afterFirst, finished}
+use Rattle.table.specs.laws.Readers.{Ready, CanRead, Opens, callOf, callAnswer, plainOf, mirrorAnswer}
 use Rattle.table.specs.declared.bodies.Counts.{Counts}
 use Rattle.table.specs.declared.bodies.Opening.{Opening}
 use Rattle.table.specs.declared.bodies.Opening.the-variants.{Plain, One, Two, Close, Fault}
-use Rattle.table.specs.declared.bodies.ItemRead.{ItemRead}
-use Rattle.table.specs.declared.bodies.ItemRead.the-variants.{More, Closed, Wrong}
-use Rattle.table.specs.declared.bodies.BlockRead.{BlockRead}
-use Rattle.table.specs.declared.bodies.BlockRead.the-variants.{Read, Bad}
 use Rattle.table.proofs.ReaderLaws.{read-ready, with-item-ready, with-fork-ready}
 
 -- a byte that is none of the codes has no kind
 pub no-kind : (b : ℕ) → (b ≡ 0 → ⊥) → (b ≡ 1 → ⊥) → (b ≡ 2 → ⊥) → (b ≡ 3 → ⊥) → (b ≡ 4 → ⊥) → (b ≡ 5 → ⊥)
-    → (b ≡ 6 → ⊥)
+    → (b ≡ 6 → ⊥) → (b ≡ 7 → ⊥)
     → opOf b ≡ none
-no-kind zero p₀ p₁ p₂ p₃ p₄ p₅ p₆ = absurd (p₀ refl)
-no-kind (suc zero) p₀ p₁ p₂ p₃ p₄ p₅ p₆ = absurd (p₁ refl)
-no-kind (suc (suc zero)) p₀ p₁ p₂ p₃ p₄ p₅ p₆ = absurd (p₂ refl)
-no-kind (suc (suc (suc zero))) p₀ p₁ p₂ p₃ p₄ p₅ p₆ = absurd (p₃ refl)
-no-kind (suc (suc (suc (suc zero)))) p₀ p₁ p₂ p₃ p₄ p₅ p₆ = absurd (p₄ refl)
-no-kind (suc (suc (suc (suc (suc zero))))) p₀ p₁ p₂ p₃ p₄ p₅ p₆ = absurd (p₅ refl)
-no-kind (suc (suc (suc (suc (suc (suc zero)))))) p₀ p₁ p₂ p₃ p₄ p₅ p₆ = absurd (p₆ refl)
-no-kind (suc (suc (suc (suc (suc (suc (suc b))))))) p₀ p₁ p₂ p₃ p₄ p₅ p₆ = refl
+no-kind zero p₀ p₁ p₂ p₃ p₄ p₅ p₆ p₇ = absurd (p₀ refl)
+no-kind (suc zero) p₀ p₁ p₂ p₃ p₄ p₅ p₆ p₇ = absurd (p₁ refl)
+no-kind (suc (suc zero)) p₀ p₁ p₂ p₃ p₄ p₅ p₆ p₇ = absurd (p₂ refl)
+no-kind (suc (suc (suc zero))) p₀ p₁ p₂ p₃ p₄ p₅ p₆ p₇ = absurd (p₃ refl)
+no-kind (suc (suc (suc (suc zero)))) p₀ p₁ p₂ p₃ p₄ p₅ p₆ p₇ = absurd (p₄ refl)
+no-kind (suc (suc (suc (suc (suc zero))))) p₀ p₁ p₂ p₃ p₄ p₅ p₆ p₇ = absurd (p₅ refl)
+no-kind (suc (suc (suc (suc (suc (suc zero)))))) p₀ p₁ p₂ p₃ p₄ p₅ p₆ p₇ = absurd (p₆ refl)
+no-kind (suc (suc (suc (suc (suc (suc (suc zero))))))) p₀ p₁ p₂ p₃ p₄ p₅ p₆ p₇ = absurd (p₇ refl)
+no-kind (suc (suc (suc (suc (suc (suc (suc (suc b)))))))) p₀ p₁ p₂ p₃ p₄ p₅ p₆ p₇ = refl
 
 -- a mask has a bit for each name below 16
 pub scope-low : (at own m : ℕ) (n : Counts) → Ready at own m n → m < 65536
 scope-low at own m n rd =
     let a : own ≤ most-params = rd .few-params in
-    let b : n .news ≤ most-news = rd .few-news in
-    let g : 2 ^ (own + n .news + 1) ≤ 2 ^ 16 = grows (own + n .news + 1) 16 (omega arith) in
-    let h : m < 2 ^ (own + n .news + 1) = rd .below in
+    let b : n .locals ≤ most-locals = rd .few-locals in
+    let g : 2 ^ (own + n .locals + 1) ≤ 2 ^ 16 = grows (own + n .locals + 1) 16 (omega arith) in
+    let h : m < 2 ^ (own + n .locals + 1) = rd .below in
     omega arith
 
 -- a new name below 16 leaves the mask small
-module _ (at own m : ℕ) (n : Counts) (rd : Ready at own m n) (l : n .news < most-news) where
-  new-shifted : (1 * 2 ^ (own + n .news + 1)) % 18446744073709551616 ≡ 2 ^ (own + n .news + 1)
-  new-shifted = shift-one (own + n .news + 1) (let h : own ≤ most-params = rd .few-params in omega arith)
+module _ (at own m : ℕ) (n : Counts) (rd : Ready at own m n) (l : n .locals < most-locals) where
+  new-shifted : (1 * 2 ^ (own + n .locals + 1)) % 18446744073709551616 ≡ 2 ^ (own + n .locals + 1)
+  new-shifted = shift-one (own + n .locals + 1) (let h : own ≤ most-params = rd .few-params in omega arith)
 
-  pub new-fits : m + (1 * 2 ^ (own + n .news + 1)) % 18446744073709551616 < 18446744073709551616
+  pub new-fits : m + (1 * 2 ^ (own + n .locals + 1)) % 18446744073709551616 < 18446744073709551616
   new-fits =
       let h : own ≤ most-params = rd .few-params in
-      let g : 2 ^ (own + n .news + 1) ≤ 2 ^ 16 = grows (own + n .news + 1) 16 (omega arith) in
+      let g : 2 ^ (own + n .locals + 1) ≤ 2 ^ 16 = grows (own + n .locals + 1) 16 (omega arith) in
       let k : m < 65536 = scope-low at own m n rd in
       rw new-shifted (omega arith)
 
@@ -119,14 +116,14 @@ module _ (ks s : List ℕ) (at d : ℕ) (first : Bool) (own m : ℕ) (n : Counts
   pub other-stray : getD s at 0 ≡ code OTHER → first ≡ false → Says (Fault 9)
   other-stray e f = record { answer = sym (by-code (code OTHER) e ∙ rw f); ready = tt }
 
-  pub new-full : getD s at 0 ≡ code NEW → most-news ≤ n .news → Says (Fault 11)
-  new-full e l = record { answer = sym (by-code (code NEW) e ∙ rw (le-leb most-news (n .news) l)); ready = tt }
+  pub new-full : getD s at 0 ≡ code NEW → most-locals ≤ n .locals → Says (Fault 11)
+  new-full e l = record { answer = sym (by-code (code NEW) e ∙ rw (le-leb most-locals (n .locals) l)); ready = tt }
 
-  pub new-made : Ready at own m n → getD s at 0 ≡ code NEW → n .news < most-news
-      → Says (Plain (at + 1) (m + (1 * 2 ^ (own + n .news + 1)) % 18446744073709551616) (withNew n))
+  pub new-made : Ready at own m n → getD s at 0 ≡ code NEW → n .locals < most-locals
+      → Says (Plain (at + 1) (m + (1 * 2 ^ (own + n .locals + 1)) % 18446744073709551616) (withLocal n))
   new-made rd e l = record {
     answer = sym (by-code (code NEW) e
-        ∙ rw (lt-leb most-news (n .news) l, next-one s at lt, new-shifted at own m n rd l));
+        ∙ rw (lt-leb most-locals (n .locals) l, next-one s at lt, new-shifted at own m n rd l));
     ready = tt;
   }
 
@@ -139,6 +136,7 @@ module _ (ks s : List ℕ) (at d : ℕ) (first : Bool) (own m : ℕ) (n : Counts
   Opener CHOICE = Unit {0}
   Opener OTHER = ⊥
   Opener CALL = ⊥
+  Opener MIRROR = ⊥
 
   pub deep : (o : Op) → Opener o → getD s at 0 ≡ code o → d ≡ 0 → Says (Fault 10)
   deep LOCK h e z = record { answer = sym (by-code (code LOCK) e ∙ rw (eq-eqb d 0 z)); ready = tt }
@@ -265,6 +263,49 @@ module _ (ks s : List ℕ) (at d : ℕ) (first : Bool) (own m : ℕ) (n : Counts
         ∙ ap (headOf s m n) (same-call (drop (at + 1) s))
         ∙ sym (by-code ks s at d first own m n lt (code CALL) e);
     ready = call-finished (drop (at + 1) s) .1;
+  }
+
+-- a MIRROR
+module _ (s : List ℕ) (at own m : ℕ) (n : Counts) where
+  pub mirror-full : most-locals ≤ n .locals → Fault 11 ≡ mirrorAnswer s at own m n
+  mirror-full l = rw (le-leb most-locals (n .locals) l)
+
+  module _ (lt : n .locals < most-locals) where
+    pub mirror-absent : length s ≤ at + 1 → Fault 13 ≡ mirrorAnswer s at own m n
+    mirror-absent l = rw (lt-leb most-locals (n .locals) lt, drop-of-length-le s l)
+
+    module _ (l : at + 1 < length s) where
+      pub mirror-unscoped : in? (getD s (at + 1) 0) (bits m) ≡ false → Fault 13 ≡ mirrorAnswer s at own m n
+      mirror-unscoped i = rw (lt-leb most-locals (n .locals) lt, second s at l, i)
+
+      pub mirror-made : Ready at own m n → in? (getD s (at + 1) 0) (bits m) ≡ true
+          → Plain (at + 2) (m + (1 * 2 ^ (own + n .locals + 1)) % 18446744073709551616) (withLocal n)
+          ≡ mirrorAnswer s at own m n
+      mirror-made rd i =
+          let g : length (drop (at + 2) s) ≡ length s - (at + 2) = length-drop (at + 2) s in
+          let x : length s - length (drop (at + 2) s) ≡ at + 2 = omega arith in
+          rw (lt-leb most-locals (n .locals) lt, second s at l, i, x, new-shifted at own m n rd lt)
+
+-- the opening that `open_mirror` gives makes the item that is read
+module _ (ks s : List ℕ) (at d : ℕ) (first : Bool) (own m : ℕ) (n : Counts) (lt : at < length s) where
+  plain-finished : (h : Head) → finished ks s d own m (plainOf s m n h) ≡ headOf s m n h
+  plain-finished (more i t) = refl
+  plain-finished (closed t) = refl
+  plain-finished (wrong e) = refl
+
+  plain-ready : (h : Head) → CanRead d own m (plainOf s m n h)
+  plain-ready (more i t) = tt
+  plain-ready (closed t) = tt
+  plain-ready (wrong e) = tt
+
+  -- the reading of the MIRROR
+  abbrev mirror-read : Head
+  mirror-read = cond (leb most-locals (n .locals)) (wrong 11) (mirrorItem (placeOf own m n) (drop (at + 1) s))
+
+  pub mirror-opens : getD s at 0 ≡ code MIRROR → Opens ks s at d first own m n (mirrorAnswer s at own m n)
+  mirror-opens e = record {
+    answer = plain-finished mirror-read ∙ sym (by-code ks s at d first own m n lt (code MIRROR) e);
+    ready = plain-ready mirror-read;
   }
 
 -- an opening that is known

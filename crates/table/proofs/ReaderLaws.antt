@@ -1,36 +1,32 @@
 -- Laws of the readers' answers at an offset: an item leaves the reader ready for the next one, and the answer from the
 -- start of a block equals the answer from there.
 use mathlib.Core.Path.{_≡_, refl, sym, ap, subst, _∙_}
-use mathlib.Core.Bool.{Bool, true, false, cond}
+use mathlib.Core.Bool.{Bool, true, false}
 use mathlib.Core.List.{List, [], _∷_, _++_}
 use mathlib.Core.Option.{Option, none, some}
-use Prim.Native.Nat.{ℕ, zero, suc, _+_, _-_, _*_, _%_, _^_, _≤_, _<_}
-use native.Mathlib.Numerals.{add-one}
-use native.Mathlib.Decide.{decLt}
+use Prim.Native.Nat.{ℕ, suc, _+_, _-_, _^_, _≤_, _<_}
 use native.Mathlib.Omega.{arith}
-use lib.Dec.{leb, eqb, ltb}
-use lib.ListN.{length, getD, take, drop, length-drop, length-append, length-take, take-append-drop, drop-of-length-le}
-use lib.Seq.{drop-cons, drop-drop, drop-at, length-take-le}
-use borrow.Author.Tests.{lt-leb, le-leb, eq-eqb, ne-eqb, leb-false}
-use Rattle.table.specs.Constants.{most-params, most-news, most-forks}
-use Rattle.table.specs.Constants.{Op, END, NEW, LOCK, FORK, CHOICE, OTHER, CALL, opOf}
-use Rattle.table.specs.Program.{Code, end, new, lock, fork, choice, call, Routine, Program, news, forks, items}
+use lib.Dec.{leb, eqb}
+use lib.ListN.{length, getD, take, drop, length-drop, length-append, take-append-drop}
+use lib.Seq.{drop-drop, drop-at}
+use borrow.Author.Tests.{leb-false}
+use Rattle.table.specs.Constants.{most-params, most-locals, most-forks}
+use Rattle.table.specs.Constants.{Op, END, NEW, LOCK, FORK, CHOICE, OTHER, CALL, MIRROR, opOf}
+use Rattle.table.specs.Program.{Code, end, Program, locals, forks, items}
 use Rattle.table.specs.Encoding.{encode, counts}
-use Rattle.table.specs.Check.{Item, aNew, aLock, aFork, aChoice, aCall, then, Place, past, starting, after}
+use Rattle.table.specs.Check.{Item, aNew, aLock, aFork, aChoice, aCall, aMirror, Place, past, starting}
 use Rattle.table.specs.Check.{Block, ok, bad, Head, more, closed, wrong, opened, in?, named, lockItem, callItem}
-use Rattle.table.specs.Check.{itemOf, joined, goOn, block, item}
-use Rattle.table.specs.laws.Sound.{closing, RightB, block-right, named-fit}
+use Rattle.table.specs.Check.{after, mirrorItem, itemOf, joined, goOn, block, item}
+use Rattle.table.specs.laws.Sound.{closing, RightB, block-right}
 use Rattle.table.specs.laws.Fuel.{block-step}
 use Rattle.table.specs.laws.ScopeMask.{bits, bits-add, grows, double}
-use Rattle.table.specs.laws.Readers.{placeOf, withItem, withNew, withFork, countsPast, countsAfter, scopeAfter}
+use Rattle.table.specs.laws.Readers.{placeOf, withItem, withFork, countsPast, countsAfter, scopeAfter}
 use Rattle.table.specs.laws.Readers.{readOf, headOf, blockAnswer, itemAnswer, Ready}
 use Rattle.table.specs.Check.{itemIf}
 use Rattle.table.specs.laws.Cases.{cond-cases}
 use Rattle.table.specs.laws.Items.{items-some, items-bytes}
 use Rattle.table.specs.declared.bodies.Counts.{Counts}
-use Rattle.table.specs.declared.bodies.ItemRead.{ItemRead}
 use Rattle.table.specs.declared.bodies.ItemRead.the-variants.{More, Closed, Wrong}
-use Rattle.table.specs.declared.bodies.BlockRead.{BlockRead}
 use Rattle.table.specs.declared.bodies.BlockRead.the-variants.{Read, Bad}
 
 -- a program with the parameter counts
@@ -46,12 +42,12 @@ counts-shell (k ∷ ks) = ap (λ (v : List ℕ). k ∷ v) (counts-shell ks)
 -- what a block that was read takes
 block-bytes : (ks : List ℕ) (d : ℕ) (first : Bool) (w : Place) (l : List ℕ) (c : Code) (t : List ℕ)
     → block ks d first w l ≡ ok c t
-    → (l ≡ encode (closing first) c ++ t) × (news c ≤ most-news - w .made) × (forks c ≤ most-forks - w .started)
+    → (l ≡ encode (closing first) c ++ t) × (locals c ≤ most-locals - w .made) × (forks c ≤ most-forks - w .started)
 block-bytes ks d first w l c t e =
     let r : RightB (shell ks) d first w l (ok c t) = subst (RightB (shell ks) d first w l) e
     (subst (λ (v : List ℕ). RightB (shell ks) d first w l (block v d first w l)) (counts-shell ks)
     (block-right (shell ks) d first w l)) in
-    (r .0, r .1 .few-news, r .1 .few-forks)
+    (r .0, r .1 .few-locals, r .1 .few-forks)
 
 -- t is what is left of s from an offset after `at`
 pub record Next (s : List ℕ) (at : ℕ) (t : List ℕ) : Type 0 where
@@ -89,19 +85,19 @@ module _ (ks s : List ℕ) (d : ℕ) (first : Bool) (own m : ℕ) where
       → block ks d first (placeOf own m n) l ≡ ok c t
       → Next s at t × Ready (length s - length t) own m (countsPast n c)
   block-next at n rd c l t el e =
-      let b : (l ≡ encode (closing first) c ++ t) × (news c ≤ most-news - n .news)
+      let b : (l ≡ encode (closing first) c ++ t) × (locals c ≤ most-locals - n .locals)
       × (forks c ≤ most-forks - n .forks) = block-bytes ks d first (placeOf own m n) l c t e in
       let i : items c ≤ length (encode (closing first) c) = items-bytes (closing first) c in
       let i′ : 1 ≤ items c = items-some c in
       let x : Next s at t × (length s - length t ≡ at + length (encode (closing first) c)) = next-of s
       (encode (closing first) c) t at (sym el ∙ b .0) (omega arith) in
-      let g : 2 ^ (own + n .news + 1) ≤ 2 ^ (own + (n .news + news c) + 1) = grows (own + n .news + 1)
-      (own + (n .news + news c) + 1) (omega arith) in
-      let lt : m < 2 ^ (own + n .news + 1) = rd .below in (
+      let g : 2 ^ (own + n .locals + 1) ≤ 2 ^ (own + (n .locals + locals c) + 1) = grows (own + n .locals + 1)
+      (own + (n .locals + locals c) + 1) (omega arith) in
+      let lt : m < 2 ^ (own + n .locals + 1) = rd .below in (
         x .0,
         record {
           few-params = rd .few-params;
-          few-news = omega arith;
+          few-locals = omega arith;
           few-forks = omega arith;
           below = omega arith;
           few-items = omega arith;
@@ -121,7 +117,7 @@ module _ (ks s : List ℕ) (at d : ℕ) (first : Bool) (own m : ℕ) (n : Counts
   pub with-item-ready : (k : ℕ) → 1 ≤ k → Ready (at + k) own m (withItem n)
   with-item-ready k l = record {
     few-params = rd .few-params;
-    few-news = rd .few-news;
+    few-locals = rd .few-locals;
     few-forks = rd .few-forks;
     below = rd .below;
     few-items = let h : n .items ≤ at = rd .few-items in omega arith;
@@ -130,7 +126,7 @@ module _ (ks s : List ℕ) (at d : ℕ) (first : Bool) (own m : ℕ) (n : Counts
   pub with-fork-ready : n .forks < most-forks → Ready (at + 1) own m (withFork n)
   with-fork-ready l = record {
     few-params = rd .few-params;
-    few-news = rd .few-news;
+    few-locals = rd .few-locals;
     few-forks = omega arith;
     below = rd .below;
     few-items = let h : n .items ≤ at = rd .few-items in omega arith;
@@ -146,20 +142,23 @@ module _ (ks s : List ℕ) (at d : ℕ) (first : Bool) (own m : ℕ) (n : Counts
   opened-good (ok c t) f h = h c t refl
   opened-good (bad e) f h = tt
 
-  new-good : (b : ℕ) (l : List ℕ) → drop at s ≡ b ∷ l → n .news < most-news → Good (more (aNew (own + n .news + 1)) l)
-  new-good b l e lt =
-      let x : Next s at l × (length s - length l ≡ at + 1) = next-of s (b ∷ []) l at e (omega arith) in
-      let h : m < 2 ^ (own + n .news + 1) = rd .below in
+  -- NEW, or MIRROR with its name, of the bytes a
+  new-good :
+      (a l : List ℕ) → drop at s ≡ a ++ l → 1 ≤ length a → n .locals < most-locals
+      → Good (more (aNew (own + n .locals + 1)) l)
+  new-good a l e long lt =
+      let x : Next s at l × (length s - length l ≡ at + length a) = next-of s a l at e (omega arith) in
+      let h : m < 2 ^ (own + n .locals + 1) = rd .below in
       let g : own ≤ most-params = rd .few-params in
       let g′ : n .items ≤ at = rd .few-items in
-      let p : own + (n .news + 1) + 1 ≡ suc (own + n .news + 1) = omega arith in
-      let q : 2 ^ suc (own + n .news + 1) ≡ 2 ^ (own + n .news + 1) + 2 ^ (own + n .news + 1) = double
-      (own + n .news + 1) in
+      let p : own + (n .locals + 1) + 1 ≡ suc (own + n .locals + 1) = omega arith in
+      let q : 2 ^ suc (own + n .locals + 1) ≡ 2 ^ (own + n .locals + 1) + 2 ^ (own + n .locals + 1) = double
+      (own + n .locals + 1) in
       record {
         next = x .0;
         ready = record {
           few-params = g;
-          few-news = omega arith;
+          few-locals = omega arith;
           few-forks = rd .few-forks;
           below = rw (p, q)
               (omega arith);
@@ -168,9 +167,9 @@ module _ (ks s : List ℕ) (at d : ℕ) (first : Bool) (own m : ℕ) (n : Counts
         place = ap {B = Place} (λ (v : List ℕ). record {
           own = own;
           scope = v;
-          made = n .news + 1;
+          made = n .locals + 1;
           started = n .forks;
-        }) (bits-add (own + n .news + 1) m (omega arith) h);
+        }) (bits-add (own + n .locals + 1) m (omega arith) h);
       }
 
   lock-good : (b : ℕ) (l : List ℕ) → drop at s ≡ b ∷ l → Good (lockItem (block ks) d w l)
@@ -214,7 +213,7 @@ module _ (ks s : List ℕ) (at d : ℕ) (first : Bool) (own m : ℕ) (n : Counts
         next = x .0;
         ready = record {
           few-params = rd .few-params;
-          few-news = rd .few-news;
+          few-locals = rd .few-locals;
           few-forks = rd .few-forks;
           below = rd .below;
           few-items = omega arith;
@@ -226,16 +225,25 @@ module _ (ks s : List ℕ) (at d : ℕ) (first : Bool) (own m : ℕ) (n : Counts
       q : ℕ
       q = getD ks r 0
 
+  mirror-good : (b : ℕ) (l : List ℕ) → drop at s ≡ b ∷ l → n .locals < most-locals → Good (mirrorItem w l)
+  mirror-good b [] e lt = tt
+  mirror-good b (y ∷ l) e lt = cond-cases Good (in? y (bits m)) _ _
+      (λ i. let g = new-good (b ∷ y ∷ []) l e (omega arith) lt in
+      record { next = g .next; ready = g .ready; place = g .place })
+      (λ i. tt)
+
   op-good : (b : ℕ) (o : Op) (l : List ℕ) → drop at s ≡ b ∷ l → Good (itemOf (block ks) ks d first w o l)
   op-good b END l e = cond-cases Good first _ _ (λ i. tt) (λ i. next-of s (b ∷ []) l at e (omega arith) .0)
-  op-good b NEW l e = cond-cases Good (leb most-news (n .news)) _ _ (λ i. tt) (λ i. new-good b l e
-      (leb-false most-news (n .news) i))
+  op-good b NEW l e = cond-cases Good (leb most-locals (n .locals)) _ _ (λ i. tt) (λ i. new-good (b ∷ []) l e
+      (omega arith) (leb-false most-locals (n .locals) i))
   op-good b LOCK l e = cond-cases Good (eqb d 0) _ _ (λ i. tt) (λ i. lock-good b l e)
   op-good b FORK l e = cond-cases Good (eqb d 0) _ _ (λ i. tt) (λ i. cond-cases Good (leb most-forks (n .forks)) _ _
       (λ i′. tt) (λ i′. fork-good b l e (leb-false most-forks (n .forks) i′)))
   op-good b CHOICE l e = cond-cases Good (eqb d 0) _ _ (λ i. tt) (λ i. choice-good b l e)
   op-good b OTHER l e = cond-cases Good first _ _ (λ i. next-of s (b ∷ []) l at e (omega arith) .0) (λ i. tt)
   op-good b CALL l e = call-good b l e
+  op-good b MIRROR l e = cond-cases Good (leb most-locals (n .locals)) _ _ (λ i. tt)
+      (λ i. mirror-good b l e (leb-false most-locals (n .locals) i))
 
   item-good : Good (item ks d first w (drop at s))
   item-good = go (drop at s) refl
@@ -248,8 +256,8 @@ module _ (ks s : List ℕ) (at d : ℕ) (first : Bool) (own m : ℕ) (n : Counts
           step none = tt
           step (some o) = op-good b o l e
 
-  same-read : (x a a′ b b′ c c′ : ℕ) → a ≡ a′ → b ≡ b′ → c ≡ c′ → Read x (record { news = a; forks = b; items = c })
-      ≡ Read x (record { news = a′; forks = b′; items = c′ })
+  same-read : (x a a′ b b′ c c′ : ℕ) → a ≡ a′ → b ≡ b′ → c ≡ c′ → Read x (record { locals = a; forks = b; items = c })
+      ≡ Read x (record { locals = a′; forks = b′; items = c′ })
   same-read x a a′ b b′ c c′ p q r = rw (p, q, r)
 
   joined-read : (i : Item) (p : Block) → readOf s n (joined i p) ≡ readOf s (countsAfter n i) p
@@ -259,6 +267,7 @@ module _ (ks s : List ℕ) (at d : ℕ) (first : Bool) (own m : ℕ) (n : Counts
   joined-read (aFork x b) (ok c t) = same-read _ _ _ _ _ _ _ (omega arith) (omega arith) (omega arith)
   joined-read (aChoice a b) (ok c t) = same-read _ _ _ _ _ _ _ (omega arith) (omega arith) (omega arith)
   joined-read (aCall r xs) (ok c t) = same-read _ _ _ _ _ _ _ refl refl (omega arith)
+  joined-read (aMirror x y) (ok c t) = same-read _ _ _ _ _ _ _ (omega arith) refl (omega arith)
 
   -- What the block reader goes by: an item leaves the block as it is from the next offset on
   pub more-goes-on : (x m′ : ℕ) (n′ : Counts) → itemAnswer ks s at d first own m n ≡ More x m′ n′

@@ -5,9 +5,10 @@ use mathlib.Core.Option.{Option, none, some}
 use Prim.Native.Nat.{ℕ, zero, suc, _+_, _*_, _-_}
 use lib.Dec.{leb, eqb, ltb}
 use lib.ListN.{length, getD, take, drop}
-use Rattle.table.specs.Constants.{most-routines, most-params, most-bytes, most-open, most-news, most-forks}
-use Rattle.table.specs.Constants.{Op, END, NEW, LOCK, FORK, CHOICE, OTHER, CALL, opOf}
-use Rattle.table.specs.Program.{Code, end, new, lock, fork, choice, call, Routine, Program, names, news, forks}
+use Rattle.table.specs.Constants.{most-routines, most-params, most-bytes, most-open, most-locals, most-forks}
+use Rattle.table.specs.Constants.{Op, END, NEW, LOCK, FORK, CHOICE, OTHER, CALL, MIRROR, opOf}
+use Rattle.table.specs.Program.{Code, end, new, lock, fork, choice, call, mirror, Routine, Program, names}
+use Rattle.table.specs.Program.{locals, forks}
 
 -- one item with its blocks, without what follows it
 pub data Item : Type 0 where
@@ -16,6 +17,7 @@ pub data Item : Type 0 where
   aFork : ℕ → Code → Item
   aChoice : Code → Code → Item
   aCall : ℕ → List ℕ → Item
+  aMirror : ℕ → ℕ → Item
 
 -- the item, and then the code
 abbrev pub then : Item → Code → Code
@@ -24,8 +26,10 @@ then (aLock x d) c = lock x d c
 then (aFork i d) c = fork i d c
 then (aChoice a b) c = choice a b c
 then (aCall r xs) c = call r xs c
+then (aMirror x y) c = mirror x y c
 
--- a place in a body: the routine's parameter count, the names in scope, and how many of its NEW and FORK stand before
+-- a place in a body: the routine's parameter count, the names in scope, and how many of its NEW and MIRROR, and of its
+-- FORK, stand before
 pub record Place : Type 0 where
   pub own : ℕ
   pub scope : List ℕ
@@ -34,19 +38,24 @@ pub record Place : Type 0 where
 
 -- the place after a block: its locals have left the scope
 abbrev pub past : Place → Code → Place
-past w c = record { own = w .own; scope = w .scope; made = w .made + news c; started = w .started + forks c }
+past w c = record { own = w .own; scope = w .scope; made = w .made + locals c; started = w .started + forks c }
 
 -- the place at the head of a fork's block
 abbrev pub starting : Place → Place
 starting w = record { own = w .own; scope = w .scope; made = w .made; started = w .started + 1 }
 
+-- the place after a NEW or MIRROR that gives the local x
+abbrev pub adding : Place → ℕ → Place
+adding w x = record { own = w .own; scope = x ∷ w .scope; made = w .made + 1; started = w .started }
+
 -- the place after an item
 abbrev pub after : Place → Item → Place
-after w (aNew x) = record { own = w .own; scope = x ∷ w .scope; made = w .made + 1; started = w .started }
+after w (aNew x) = adding w x
 after w (aLock x c) = past w c
 after w (aFork i c) = past (starting w) c
 after w (aChoice a b) = past (past w a) b
 after w (aCall r xs) = w
+after w (aMirror x y) = adding w x
 
 -- what reading a block gives: its code and the bytes after it, or a refusal
 pub data Block : Type 0 where
@@ -94,11 +103,16 @@ callItem ks w (r ∷ l) =
     (more (aCall r (take (getD ks r 0) l)) (drop (getD ks r 0) l))
     (wrong 13))
 
+-- MIRROR, after its code: the name that it mirrors
+abbrev pub mirrorItem : Place → List ℕ → Head
+mirrorItem w [] = wrong 13
+mirrorItem w (y ∷ l) = cond (in? y (w .scope)) (more (aMirror (w .own + w .made + 1) y) l) (wrong 13)
+
 -- an item after its code, of each kind; its blocks are read by `read`
 abbrev pub itemOf : Reader → List ℕ → ℕ → Bool → Place → Op → List ℕ → Head
 itemOf read ks d first w END l = cond first (wrong 9) (closed l)
 itemOf read ks d first w NEW l =
-    cond (leb most-news (w .made)) (wrong 11) (more (aNew (w .own + w .made + 1)) l)
+    cond (leb most-locals (w .made)) (wrong 11) (more (aNew (w .own + w .made + 1)) l)
 itemOf read ks d first w LOCK l = cond (eqb d 0) (wrong 10) (lockItem read d w l)
 itemOf read ks d first w FORK l =
     cond (eqb d 0) (wrong 10)
@@ -110,6 +124,7 @@ itemOf read ks d first w CHOICE l =
     opened (read (d - 1) false (past w a) t) (λ b u. more (aChoice a b) u)))
 itemOf read ks d first w OTHER l = cond first (closed l) (wrong 9)
 itemOf read ks d first w CALL l = callItem ks w l
+itemOf read ks d first w MIRROR l = cond (leb most-locals (w .made)) (wrong 11) (mirrorItem w l)
 
 -- an item whose code is of that kind, if of any
 abbrev pub itemIf : Reader → List ℕ → ℕ → Bool → Place → Option Op → List ℕ → Head

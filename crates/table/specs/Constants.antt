@@ -20,9 +20,9 @@ most-bytes = 4096
 abbrev pub most-open : ℕ
 most-open = 16
 
--- how many NEW stand in a routine at most
-abbrev pub most-news : ℕ
-most-news = 8
+-- how many NEW and MIRROR stand in a routine at most
+abbrev pub most-locals : ℕ
+most-locals = 8
 
 -- how many FORK stand in a routine at most
 abbrev pub most-forks : ℕ
@@ -30,7 +30,7 @@ most-forks = 8
 
 -- how many names a routine has at most: name 0, its parameters and its locals
 abbrev pub most-names : ℕ
-most-names = 1 + most-params + most-news
+most-names = 1 + most-params + most-locals
 
 -- how many names a row of the model has cells for: name 0 and the parameters
 abbrev pub row-names : ℕ
@@ -46,7 +46,7 @@ row-bytes = row-cells + 1
 
 -- the kinds of item
 pub data Op : Type 0 where
-  END NEW LOCK FORK CHOICE OTHER CALL : Op
+  END NEW LOCK FORK CHOICE OTHER CALL MIRROR : Op
 
 -- the code of a kind of item
 abbrev pub code : Op → ℕ
@@ -57,7 +57,8 @@ code FORK = 0x03
 code CHOICE = 0x04
 code OTHER = 0x05
 code CALL = 0x06
+code MIRROR = 0x07
 
 -- the kind of item that has the byte as its code, if there is one
 abbrev pub opOf : ℕ → Option Op
-opOf b = getElem? (END ∷ NEW ∷ LOCK ∷ FORK ∷ CHOICE ∷ OTHER ∷ CALL ∷ []) b
+opOf b = getElem? (END ∷ NEW ∷ LOCK ∷ FORK ∷ CHOICE ∷ OTHER ∷ CALL ∷ MIRROR ∷ []) b

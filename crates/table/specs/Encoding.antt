@@ -3,10 +3,10 @@ use mathlib.Core.Path.{_≡_}
 use mathlib.Core.List.{List, [], _∷_, _++_}
 use Prim.Native.Nat.{ℕ, _+_, _/_, _%_, max, _≤_, _<_}
 use lib.ListN.{length, getD}
-use Rattle.table.specs.Constants.{most-routines, most-params, most-bytes, most-open, most-news, most-forks}
-use Rattle.table.specs.Constants.{Op, END, NEW, LOCK, FORK, CHOICE, OTHER, CALL, code}
-use Rattle.table.specs.Program.{Code, end, new, lock, fork, choice, call, Routine, Program, empty, params, names}
-use Rattle.table.specs.Program.{news, forks}
+use Rattle.table.specs.Constants.{most-routines, most-params, most-bytes, most-open, most-locals, most-forks}
+use Rattle.table.specs.Constants.{Op, END, NEW, LOCK, FORK, CHOICE, OTHER, CALL, MIRROR, code}
+use Rattle.table.specs.Program.{Code, end, new, lock, fork, choice, call, mirror, Routine, Program, empty}
+use Rattle.table.specs.Program.{params, names, locals, forks}
 use Rattle.table.specs.WellFormed.{Scoped}
 
 -- the bytes of a body, block or alternative that an item of the kind z closes: END, or OTHER for a first alternative
@@ -17,6 +17,7 @@ encode z (lock x c d) = code LOCK ∷ x ∷ (encode END c ++ encode z d)
 encode z (fork i c d) = code FORK ∷ (encode END c ++ encode z d)
 encode z (choice a b c) = code CHOICE ∷ (encode OTHER a ++ (encode END b ++ encode z c))
 encode z (call r xs c) = code CALL ∷ r ∷ (xs ++ encode z c)
+encode z (mirror x y c) = code MIRROR ∷ y ∷ encode z c
 
 -- the bodies in order
 abbrev pub encodeBodies : Program → List ℕ
@@ -36,17 +37,18 @@ twoBytes n = n % 256 ∷ n / 256 ∷ []
 abbrev pub encodeTable : Program → List ℕ
 encodeTable P = length P ∷ (counts P ++ (twoBytes (length (encodeBodies P)) ++ encodeBodies P))
 
--- NEW and FORK are numbered in written order over the routine, its locals above its k parameters and its forks from 1
--- on, where m NEW and j FORK of the routine stand before the code
+-- Locals and forks are numbered in written order over the routine, the locals of its NEW and MIRROR above its k
+-- parameters and its forks from 1 on, where m NEW and MIRROR and j FORK of the routine stand before the code.
 abbrev pub Numbered : ℕ → ℕ → ℕ → Code → Type 0
 Numbered k m j end = Unit {0}
 Numbered k m j (new x c) = (x ≡ k + m + 1) × Numbered k (m + 1) j c
-Numbered k m j (lock x c d) = Numbered k m j c × Numbered k (m + news c) (j + forks c) d
-Numbered k m j (fork i c d) = (i ≡ j + 1) × Numbered k m (j + 1) c × Numbered k (m + news c) (j + 1 + forks c) d
+Numbered k m j (lock x c d) = Numbered k m j c × Numbered k (m + locals c) (j + forks c) d
+Numbered k m j (fork i c d) = (i ≡ j + 1) × Numbered k m (j + 1) c × Numbered k (m + locals c) (j + 1 + forks c) d
 Numbered k m j (choice a b c) =
-    Numbered k m j a × Numbered k (m + news a) (j + forks a) b
-    × Numbered k (m + news a + news b) (j + forks a + forks b) c
+    Numbered k m j a × Numbered k (m + locals a) (j + forks a) b
+    × Numbered k (m + locals a + locals b) (j + forks a + forks b) c
 Numbered k m j (call r xs c) = Numbered k m j c
+Numbered k m j (mirror x y c) = (x ≡ k + m + 1) × Numbered k (m + 1) j c
 
 -- how many blocks are open at one time in the code, at most
 abbrev pub depth : Code → ℕ
@@ -56,6 +58,7 @@ depth (lock x c d) = max (1 + depth c) (depth d)
 depth (fork i c d) = max (1 + depth c) (depth d)
 depth (choice a b c) = max (1 + max (depth a) (depth b)) (depth c)
 depth (call r xs c) = depth c
+depth (mirror x y c) = depth c
 
 -- a routine of the program P within the limits
 pub record Fits (P : Program) (q : Routine) : Type 0 where
@@ -63,7 +66,7 @@ pub record Fits (P : Program) (q : Routine) : Type 0 where
   pub scoped : Scoped P (q .count) (names (q .count)) (q .code)
   pub numbered : Numbered (q .count) 0 0 (q .code)
   pub few-open : depth (q .code) ≤ most-open
-  pub few-news : news (q .code) ≤ most-news
+  pub few-locals : locals (q .code) ≤ most-locals
   pub few-forks : forks (q .code) ≤ most-forks
 
 -- a program within the limits

@@ -3,8 +3,8 @@ use mathlib.Core.List.{List, [], _∷_}
 use Prim.Native.Nat.{ℕ, zero, suc, _+_}
 use lib.ListN.{getD}
 
--- A body, block or alternative. The last code of an item is what follows it, the ones before are its blocks. NEW has
--- its local name written in, and FORK its number in the routine.
+-- A body, block or alternative. The last code of an item is what follows it, the ones before are its blocks. NEW and
+-- MIRROR have their local name written in, MIRROR before the name that it mirrors, and FORK its number in the routine.
 pub data Code : Type 0 where
   end : Code
   new : ℕ → Code → Code
@@ -12,6 +12,7 @@ pub data Code : Type 0 where
   fork : ℕ → Code → Code → Code
   choice : Code → Code → Code → Code
   call : ℕ → List ℕ → Code → Code
+  mirror : ℕ → ℕ → Code → Code
 
 -- a routine: its parameter count and its body
 pub record Routine : Type 0 where
@@ -39,14 +40,15 @@ abbrev pub names : ℕ → List ℕ
 names zero = []
 names (suc k) = suc k ∷ names k
 
--- how many NEW stand in the code
-abbrev pub news : Code → ℕ
-news end = 0
-news (new x c) = 1 + news c
-news (lock x c d) = news c + news d
-news (fork i c d) = news c + news d
-news (choice a b c) = news a + (news b + news c)
-news (call r xs c) = news c
+-- how many NEW and MIRROR stand in the code
+abbrev pub locals : Code → ℕ
+locals end = 0
+locals (new x c) = 1 + locals c
+locals (lock x c d) = locals c + locals d
+locals (fork i c d) = locals c + locals d
+locals (choice a b c) = locals a + (locals b + locals c)
+locals (call r xs c) = locals c
+locals (mirror x y c) = 1 + locals c
 
 -- how many FORK stand in the code
 abbrev pub forks : Code → ℕ
@@ -56,6 +58,7 @@ forks (lock x c d) = forks c + forks d
 forks (fork i c d) = 1 + (forks c + forks d)
 forks (choice a b c) = forks a + (forks b + forks c)
 forks (call r xs c) = forks c
+forks (mirror x y c) = forks c
 
 -- how many items stand in the code: every END and OTHER counts as one
 abbrev pub items : Code → ℕ
@@ -65,6 +68,7 @@ items (lock x c d) = 1 + (items c + items d)
 items (fork i c d) = 1 + (items c + items d)
 items (choice a b c) = 1 + (items a + (items b + items c))
 items (call r xs c) = 1 + items c
+items (mirror x y c) = 1 + items c
 
 -- how many items stand in the bodies of the program
 abbrev pub programItems : Program → ℕ

@@ -1,15 +1,16 @@
 // The readers of bodies: the block reader and the item reader call each other, and the depth left falls with each block
 // that is opened. They keep an offset into the lent section and copy none of it.
 ghost use mathlib.Core.Path.{_≡_};
-ghost use Rattle.table.specs.laws.Readers.{afterBlock, blockAnswer, itemAnswer, callAnswer};
-ghost use Rattle.table.specs.laws.Readers.{Opens, CallReady, Ready};
+ghost use Rattle.table.specs.laws.Readers.{afterBlock, blockAnswer, itemAnswer, callAnswer, mirrorAnswer};
+ghost use Rattle.table.specs.laws.Readers.{Opens, CallReady, MirrorReady, Ready};
 use crate::limits::CALL;
 use crate::limits::CHOICE;
 use crate::limits::END;
 use crate::limits::FORK;
 use crate::limits::LOCK;
+use crate::limits::MIRROR;
 use crate::limits::MOST_FORKS;
-use crate::limits::MOST_NEWS;
+use crate::limits::MOST_LOCALS;
 use crate::limits::NEW;
 use crate::limits::OTHER;
 use crate::scope::in_scope;
@@ -17,9 +18,9 @@ use crate::scope::names_at;
 use crate::scope::size;
 use crate::scope::wide;
 
-// How many NEW and FORK of the routine, and how many items of the table, stand before a place.
+// How many NEW and MIRROR, and FORK, of the routine, and how many items of the table, stand before a place.
 pub struct Counts {
-    pub news: u64,
+    pub locals: u64,
     pub forks: u64,
     pub items: u64,
 }
@@ -68,6 +69,34 @@ fn open_call(ks: &[u8], s: &[u8], at: usize, scope: u64, after: Counts) -> Openi
     }
 }
 
+// What stands at a MIRROR whose code is at `at`.
+fn open_mirror(s: &[u8], at: usize, own: u64, scope: u64, n: Counts) -> Opening
+    requires { ⌜ MirrorReady (now s) at own scope n ⌝ }
+    ensures { λ r. ⌜ r ≡ mirrorAnswer (now (s .entry)) at own scope n ⌝ }
+{
+    let made = n.locals;
+    let name = at + 1;
+    if MOST_LOCALS <= made {
+        return Opening::Fault(11); // tried before the name is
+    }
+    if s.len() <= name {
+        return Opening::Fault(13); // as for a name out of scope
+    }
+    if in_scope(scope, wide(s[name])) {
+        Opening::Plain(
+            at + 2,
+            scope + (1 << (own + made + 1)),
+            Counts {
+                locals: made + 1,
+                forks: n.forks,
+                items: n.items + 1,
+            },
+        )
+    } else {
+        Opening::Fault(13)
+    }
+}
+
 // What stands at `at`.
 fn open_item(
     ks: &[u8],
@@ -85,7 +114,7 @@ fn open_item(
     if s.len() <= at {
         return Opening::Fault(7);
     }
-    let news = n.news;
+    let locals = n.locals;
     let forks = n.forks;
     let items = n.items + 1;
     match s[at] {
@@ -97,14 +126,14 @@ fn open_item(
             }
         }
         NEW => {
-            if MOST_NEWS <= news {
+            if MOST_LOCALS <= locals {
                 return Opening::Fault(11);
             }
             Opening::Plain(
                 at + 1,
-                scope + (1 << (own + news + 1)),
+                scope + (1 << (own + locals + 1)),
                 Counts {
-                    news: news + 1,
+                    locals: locals + 1,
                     forks: forks,
                     items: items,
                 },
@@ -121,7 +150,7 @@ fn open_item(
                 Opening::One(
                     at + 2,
                     Counts {
-                        news: news,
+                        locals: locals,
                         forks: forks,
                         items: items,
                     },
@@ -140,7 +169,7 @@ fn open_item(
             Opening::One(
                 at + 1,
                 Counts {
-                    news: news,
+                    locals: locals,
                     forks: forks + 1,
                     items: items,
                 },
@@ -153,7 +182,7 @@ fn open_item(
             Opening::Two(
                 at + 1,
                 Counts {
-                    news: news,
+                    locals: locals,
                     forks: forks,
                     items: items,
                 },
@@ -172,11 +201,12 @@ fn open_item(
             at,
             scope,
             Counts {
-                news: news,
+                locals: locals,
                 forks: forks,
                 items: items,
             },
         ),
+        MIRROR => open_mirror(s, at, own, scope, n),
         _ => Opening::Fault(8),
     }
 }
@@ -219,7 +249,7 @@ pub fn read_block(
                 return BlockRead::Read(
                     next,
                     Counts {
-                        news: n.news,
+                        locals: n.locals,
                         forks: n.forks,
                         items: n.items + 1,
                     },

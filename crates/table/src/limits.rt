@@ -12,14 +12,14 @@ pub const MOST_BYTES: usize = 4096;
 // How many blocks are open at one time at most, the body not counted.
 pub const MOST_OPEN: u64 = 16;
 
-// How many NEW stand in a routine at most.
-pub const MOST_NEWS: u64 = 8;
+// How many NEW and MIRROR stand in a routine at most.
+pub const MOST_LOCALS: u64 = 8;
 
 // How many FORK stand in a routine at most.
 pub const MOST_FORKS: u64 = 8;
 
 // How many names a routine has at most: name 0, its parameters and its locals.
-pub const MOST_NAMES: usize = 1 + MOST_PARAMS as usize + MOST_NEWS as usize;
+pub const MOST_NAMES: usize = 1 + MOST_PARAMS as usize + MOST_LOCALS as usize;
 
 // How many names a row of the model has cells for: name 0 and the parameters.
 pub const ROW_NAMES: usize = 1 + MOST_PARAMS as usize;
@@ -44,3 +44,5 @@ pub const CHOICE: u8 = 0x04;
 pub const OTHER: u8 = 0x05;
 
 pub const CALL: u8 = 0x06;
+
+pub const MIRROR: u8 = 0x07;

@@ -20,7 +20,7 @@ fn read_from(s: &[u8], at: usize, ks: &[u8], own: u64, items: u64) -> BlockRead
     ensures { λ r. ⌜ r ≡ bodyAnswer (now (ks .entry)) (now (s .entry)) at own items ⌝ }
 {
     let n = Counts {
-        news: 0,
+        locals: 0,
         forks: 0,
         items: items,
     };

@@ -2,9 +2,12 @@
 //!
 //! `compare [SEED [COUNT]]` goes over the worked cases, a table for each rule, the
 //! boundary tables, some plain runs of bytes and COUNT random tables of SEED. It
-//! prints one summary line, or the first difference and exits with 1. It also exits
-//! with 1 where COUNT is 1,000 or more and none of the random tables would have come
-//! out otherwise before request #101.
+//! prints one summary line, or the first difference and exits with 1.
+//!
+//! Where COUNT is 1,000 or more, it also exits with 1 if none of the random tables would
+//! have come out otherwise before request #101, if fewer than a third of them are
+//! accepted tables with a mirror, or if none of those would come out otherwise with each
+//! mirror a NEW lock of its own.
 //!
 //! None of the archive's numbers has the share in it: the listings that `frames` writes
 //! are there to compare that.
@@ -23,8 +26,10 @@ use reference::{check_number, hex};
 
 const DEFAULT_SEED: u64 = 1;
 const DEFAULT_COUNT: u64 = 100_000;
-/// Of so many random tables, some come out otherwise by request #101.
+/// So many random tables must have something of what the requests change.
 const ENOUGH: u64 = 1_000;
+/// At least one in so many of them is an accepted table with a mirror.
+const ONE_IN: u64 = 3;
 
 /// What has been compared so far.
 #[derive(Default)]
@@ -124,39 +129,61 @@ mod analysis {
     }
 }
 
-/// What request #101 changes.
-mod nests {
+/// What single rules change in the random tables.
+mod changes {
     use reference::limits::ROW_BYTES;
     use reference::model::locks_passed_over;
-    use reference::{analyse_by, table, Answer, Rules};
+    use reference::table::{read, Table};
+    use reference::{analyse_by, Answer, Rules};
 
     #[derive(Default)]
     pub struct Tally {
-        /// Tables with a LOCK that is passed over.
+        /// Accepted tables with a LOCK that is passed over.
         pub passed_over: u64,
-        /// Tables whose answer or model was another before the request.
-        pub changed: u64,
-    }
-
-    /// Answer and model of an accepted table.
-    fn outcome(rules: Rules, bytes: &[u8], routines: usize) -> (Answer, Vec<u8>) {
-        let mut model = vec![0; ROW_BYTES * routines];
-        (analyse_by(rules, bytes, &mut model), model)
+        /// Those whose answer or model was another before request #101.
+        pub by_nests: u64,
+        /// Accepted tables with a mirror.
+        pub mirrors: u64,
+        /// Those whose answer or model is another with each mirror a NEW lock of its own.
+        pub by_mirrors: u64,
     }
 
     /// Counts one table, which may be a refused one.
     pub fn count(tally: &mut Tally, bytes: &[u8]) {
-        let Ok(table) = table::read(bytes) else {
+        let Ok(table) = read(bytes) else {
             return;
         };
-        // Without such a LOCK the rules are the same.
-        if locks_passed_over(&table) == 0 {
-            return;
+        // Elsewhere the rules are the same.
+        if locks_passed_over(&table) > 0 {
+            tally.passed_over += 1;
+            tally.by_nests += u64::from(changes(Rules::Before101, bytes, &table));
         }
-        tally.passed_over += 1;
-        let [now, before] = [Rules::InForce, Rules::Before101]
-            .map(|rules| outcome(rules, bytes, table.routines.len()));
-        tally.changed += u64::from(now != before);
+        if table.mirrors() > 0 {
+            tally.mirrors += 1;
+            tally.by_mirrors += u64::from(changes(Rules::MirrorsApart, bytes, &table));
+        }
+    }
+
+    /// Whether these rules give another answer or model than those in force.
+    fn changes(rules: Rules, bytes: &[u8], table: &Table) -> bool {
+        let outcome = |rules| -> (Answer, Vec<u8>) {
+            let mut model = vec![0; ROW_BYTES * table.routines.len()];
+            (analyse_by(rules, bytes, &mut model), model)
+        };
+        outcome(rules) != outcome(Rules::InForce)
+    }
+
+    /// What is missing in `count` random tables, none where all is there.
+    pub fn missing(tally: &Tally, count: u64) -> Option<&'static str> {
+        if tally.by_nests == 0 {
+            Some("none was another before request #101")
+        } else if super::ONE_IN * tally.mirrors < count {
+            Some("too few are accepted and have a mirror")
+        } else if tally.by_mirrors == 0 {
+            Some("none is another with each mirror a lock of its own")
+        } else {
+            None
+        }
     }
 }
 
@@ -213,7 +240,7 @@ fn run(seed: u64, count: u64) -> Result<String, String> {
         one(format!("plain table {index}"), table)?;
     }
     let mut kinds = BTreeMap::new();
-    let mut nests = nests::Tally::default();
+    let mut changes = changes::Tally::default();
     for index in 0..count {
         let (kind, table) = random(seed, index);
         one(
@@ -221,11 +248,11 @@ fn run(seed: u64, count: u64) -> Result<String, String> {
             &table,
         )?;
         *kinds.entry(kind).or_insert(0) += 1;
-        nests::count(&mut nests, &table);
+        changes::count(&mut changes, &table);
     }
-    if count >= ENOUGH && nests.changed == 0 {
+    if let Some(missing) = changes::missing(&changes, count).filter(|_| count >= ENOUGH) {
         return Err(format!(
-            "request #101 changes nothing in {count} random tables of seed {seed}"
+            "of {count} random tables of seed {seed}, {missing}"
         ));
     }
 
@@ -257,7 +284,11 @@ fn run(seed: u64, count: u64) -> Result<String, String> {
     }
     summary += &format!(
         "; of the random tables {} have a LOCK that is passed over, {} came out otherwise before request #101",
-        nests.passed_over, nests.changed
+        changes.passed_over, changes.by_nests
+    );
+    summary += &format!(
+        "; {} have a mirror and are accepted, {} would come out otherwise with each mirror a NEW lock of its own",
+        changes.mirrors, changes.by_mirrors
     );
     Ok(summary)
 }

@@ -39,16 +39,15 @@ pub record BodyOf (P : Program) (ks s : List ℕ) (at r : ℕ) : Type 0 where
   pub listed : r < length P
   pub starts : at ≡ startOf P r
 
--- a body starts at the offset, and the buffer has all rows
-pub record BodyReady (ks s : List ℕ) (at : ℕ) (rows : List ℕ) : Type 0 where
+-- the body of routine r starts at the offset, and the buffer has all rows
+pub record BodyReady (ks s : List ℕ) (at r : ℕ) (rows : List ℕ) : Type 0 where
   pub program : Program
-  pub routine : ℕ
-  pub body-of : BodyOf program ks s at routine
+  pub body-of : BodyOf program ks s at r
   pub long : row-bytes * length program ≤ length rows
 
--- the grid has what is worked out in the body at the offset
-abbrev pub Works : List ℕ → List ℕ → ℕ → List ℕ → List (List ℕ) → Type 0
-Works ks s at rows g = (P : Program) (r : ℕ) → BodyOf P ks s at r → GridOf P rows r g
+-- the grid has what is worked out in the body of routine r, which is at the offset
+abbrev pub Works : List ℕ → List ℕ → ℕ → ℕ → List ℕ → List (List ℕ) → Type 0
+Works ks s at r rows g = (P : Program) → BodyOf P ks s at r → GridOf P rows r g
 
 -- the body of routine r starts at the offset, and its row is there and has labels alone
 pub record RowReady (ks s : List ℕ) (at r : ℕ) (model : List ℕ) : Type 0 where

@@ -1,90 +1,57 @@
 -- The bodies of a program within the limits are fine.
 use mathlib.Core.Path.{_≡_, refl, sym, ap, _∙_}
-use mathlib.Core.Logic.{inl, inr}
 use mathlib.Core.List.{List, [], _∷_, _++_}
-use Prim.Native.Nat.{ℕ, zero, suc, _+_, _≤_, _<_}
+use Prim.Native.Nat.{ℕ, zero, suc, _+_, _<_}
 use native.Mathlib.Omega.{arith}
 use native.Mathlib.Numerals.{add-one}
 use lib.ListN.{length, drop}
 use lib.Seq.{drop-drop, drop-at}
 use Rattle.table.specs.Constants.{END}
-use Rattle.table.specs.Program.{Code, end, new, lock, fork, choice, call, Program, params, body}
-use Rattle.table.specs.Program.{names, news, forks}
-use Rattle.table.specs.WellFormed.{In, Scoped}
-use Rattle.table.specs.Encoding.{encode, encodeBodies, counts, Numbered, WithinLimits}
+use Rattle.table.specs.Program.{Code, end, new, lock, fork, choice, call, mirror, Program, params, body}
+use Rattle.table.specs.Program.{names}
+use Rattle.table.specs.WellFormed.{Scoped}
+use Rattle.table.specs.Encoding.{encode, encodeBodies, counts, WithinLimits}
 use Rattle.table.specs.laws.Sound.{counts-length, counts-params}
-use Rattle.pairs.specs.Fine.{Named, ForksFrom, Fine, IsBody}
+use Rattle.pairs.specs.Fine.{Calling, Uses, Fine, IsBody}
 
--- each name of the scope is at most n
-abbrev UpTo : ℕ → List ℕ → Type 0
-UpTo n s = (x : ℕ) → In x s → x ≤ n
-
-up-to-more : (n m : ℕ) (s : List ℕ) → n ≤ m → UpTo n s → UpTo m s
-up-to-more n m s h u x i = let z = u x i in omega arith
-
-names-up-to : (k : ℕ) → UpTo k (names k)
-names-up-to (suc k) x (inl e) = omega arith
-names-up-to (suc k) x (inr i) = let z = names-up-to k x i in omega arith
-
-forks-numbered : (k m j : ℕ) (c : Code) → Numbered k m j c → ForksFrom j c
-forks-numbered k m j end n = tt
-forks-numbered k m j (new x c) n = forks-numbered k (m + 1) j c (n .1)
-forks-numbered k m j (lock x c d) n =
-    (forks-numbered k m j c (n .0), forks-numbered k (m + news c) (j + forks c) d (n .1))
-forks-numbered k m j (fork i c d) n =
-    (n .0, forks-numbered k m (j + 1) c (n .1), forks-numbered k (m + news c) (j + 1 + forks c) d (n .2))
-forks-numbered k m j (choice a b c) n = (
-  forks-numbered k m j a (n .0),
-  forks-numbered k (m + news a) (j + forks a) b (n .1),
-  forks-numbered k (m + news a + news b) (j + forks a + forks b) c (n .2),
-)
-forks-numbered k m j (call r xs c) n = forks-numbered k m j c n
-
--- where m NEW stand before the code, the names in scope are at most k + m
+-- its calls are of routines of the program, with a name for each parameter
 module _ (P : Program) (h : WithinLimits P) (k : ℕ) where
-  named : (m j : ℕ) (s : List ℕ) (c : Code) → UpTo (k + m) s → k + m + news c < 16 → Scoped P k s c
-      → Numbered k m j c → Named (counts P) c
-  named m j s end u l p n = tt
-  named m j s (new x c) u l p n = named (m + 1) j (x ∷ s) c wider (omega arith) (p .1) (n .1)
-    where
-      wider : UpTo (k + (m + 1)) (x ∷ s)
-      wider y (inl e) = let z : x ≡ k + m + 1 = n .0 in omega arith
-      wider y (inr i) = let z = u y i in omega arith
-  named m j s (lock x c d) u l p n = (
-    (let z = u x (p .0) in omega arith),
-    named m j s c u (omega arith) (p .1) (n .0),
-    named (m + news c) (j + forks c) s d (up-to-more (k + m) _ s (omega arith) u) (omega arith) (p .2) (n .1),
-  )
-  named m j s (fork i c d) u l p n = (
-    named m (j + 1) s c u (omega arith) (p .0) (n .1),
-    named (m + news c) (j + 1 + forks c) s d (up-to-more (k + m) _ s (omega arith) u) (omega arith) (p .1) (n .2),
-  )
-  named m j s (choice a b c) u l p n = (
-    named m j s a u (omega arith) (p .0) (n .0),
-    named (m + news a) (j + forks a) s b (up-to-more (k + m) _ s (omega arith) u) (omega arith) (p .1) (n .1),
-    named (m + news a + news b) (j + forks a + forks b) s c (up-to-more (k + m) _ s (omega arith) u) (omega arith)
-        (p .2) (n .2),
-  )
-  named m j s (call r xs c) u l p n = (
+  calling : (s : List ℕ) (c : Code) → Scoped P k s c → Calling (counts P) c
+  calling s end p = tt
+  calling s (new x c) p = calling (x ∷ s) c (p .1)
+  calling s (lock x c d) p = (calling s c (p .1), calling s d (p .2))
+  calling s (fork i c d) p = (calling s c (p .0), calling s d (p .1))
+  calling s (choice a b c) p = (calling s a (p .0), calling s b (p .1), calling s c (p .2))
+  calling s (call r xs c) p = (
     rw (counts-length P) (p .0),
     rw (counts-params P r) (p .1),
     rw (p .1) (h .fits r (p .0) .few-params),
-    (λ x i. let z = u x (p .2 x i) in omega arith),
-    named m j s c u l (p .3) n,
+    calling s c (p .3),
   )
+  calling s (mirror x y c) p = calling (x ∷ s) c (p .2)
+
+-- and its names are in scope
+uses : (P : Program) (k : ℕ) (s : List ℕ) (c : Code) → Scoped P k s c → Uses s c
+uses P k s end p = tt
+uses P k s (new x c) p = uses P k (x ∷ s) c (p .1)
+uses P k s (lock x c d) p = (p .0, uses P k s c (p .1), uses P k s d (p .2))
+uses P k s (fork i c d) p = (uses P k s c (p .0), uses P k s d (p .1))
+uses P k s (choice a b c) p = (uses P k s a (p .0), uses P k s b (p .1), uses P k s c (p .2))
+uses P k s (call r xs c) p = (p .2, uses P k s c (p .3))
+uses P k s (mirror x y c) p = (p .1, uses P k (x ∷ s) c (p .2))
 
 -- each body of a program within the limits is fine
-pub fine : (P : Program) (r : ℕ) → WithinLimits P → r < length P → Fine (counts P) (body P r)
+pub fine : (P : Program) (r : ℕ) → WithinLimits P → r < length P → Fine (counts P) (params P r) (body P r)
 fine P r h l =
     let f = h .fits r l in
     let a = f .few-params in
-    let b = f .few-news in
-    let u : UpTo (params P r + 0) (names (params P r)) = up-to-more (params P r) _ (names (params P r)) (omega arith)
-    (names-up-to (params P r)) in
+    let b = f .few-locals in
     record {
-      named = named P h (params P r) 0 0 (names (params P r)) (body P r) u (omega arith) (f .scoped) (f .numbered);
+      calling = calling P h (params P r) (names (params P r)) (body P r) (f .scoped);
+      uses = uses P (params P r) (names (params P r)) (body P r) (f .scoped);
       few-open = f .few-open;
-      numbered = forks-numbered (params P r) 0 0 (body P r) (f .numbered);
+      numbered = f .numbered;
+      few-names = omega arith;
       few-forks = f .few-forks;
     }
 
@@ -98,7 +65,7 @@ bodies-from (q ∷ P) (suc r) l = bodies-from P r (omega arith)
 module _ (P : Program) (h : WithinLimits P) (s : List ℕ) (at r : ℕ) (e : drop at s ≡ encodeBodies (drop r P))
     (l : r < length P) where
   -- where the bodies from routine r on are left, its body starts
-  pub is-body : IsBody (counts P) s at
+  pub is-body : IsBody (counts P) (params P r) s at
   is-body = (body P r, encodeBodies (drop (suc r) P), fine P r h l, e ∙ bodies-from P r l)
 
   -- past it the bodies after it are left

@@ -6,9 +6,10 @@ use Prim.Native.Nat.{ℕ, _<_, _≤_}
 use native.Mathlib.Decide.{decLt}
 use native.Mathlib.Omega.{arith}
 use lib.ListN.{length, List·getD-eq-default}
-use Rattle.table.specs.Program.{Code, end, new, lock, fork, choice, call, Routine, Program, empty, params, body}
+use Rattle.table.specs.Program.{Code, end, new, lock, fork, choice, call, mirror, Routine, Program, empty}
+use Rattle.table.specs.Program.{params, body}
 use Rattle.rules.specs.Label.{Label, several, combine, cut}
-use Rattle.rules.specs.Model.{Kept, Place, atHead, underLock, underFork, Model, Row, Ring}
+use Rattle.rules.specs.Model.{Kept, Place, atHead, naming, underLock, underFork, Model, Row, Ring}
 use Rattle.rules.specs.Verdict.{Calls}
 use Rattle.rules.specs.laws.Satisfies.{Pairs, RecordedFrom, RowOf, Satisfies}
 use Rattle.rules.specs.laws.Least.{recorded-mono, model-satisfies, model-least}
@@ -61,14 +62,14 @@ sound-added P R S r s h q a b l w = ⊎-elim (λ p. s q a b l p) (λ p. rw (p .0
 pub recorded-calls :
     (R S : Pairs) (c : Code) → ((q a b : ℕ) (l : Label) → Calls c q → R q a b l → S q a b l)
     → (π : Place) (a b : ℕ) (l : Label) → RecordedFrom R c π a b l → RecordedFrom S c π a b l
-recorded-calls R S (new x c) f π a b l w = recorded-calls R S c f π a b l w
+recorded-calls R S (new x c) f π a b l w = recorded-calls R S c f (naming x x π) a b l w
 recorded-calls R S (lock x c d) f π a b l (inl w) = inl w
 recorded-calls R S (lock x c d) f π a b l (inr (inl w)) =
     inr (inl (recorded-calls R S c (λ q a b l k. f q a b l (inl k)) (underLock x π) a b l w))
 recorded-calls R S (lock x c d) f π a b l (inr (inr w)) =
     inr (inr (recorded-calls R S d (λ q a b l k. f q a b l (inr k)) π a b l w))
 recorded-calls R S (fork i c d) f π a b l (inl w) =
-    inl (recorded-calls R S c (λ q a b l k. f q a b l (inl k)) (underFork i) a b l w)
+    inl (recorded-calls R S c (λ q a b l k. f q a b l (inl k)) (underFork i π) a b l w)
 recorded-calls R S (fork i c d) f π a b l (inr w) =
     inr (recorded-calls R S d (λ q a b l k. f q a b l (inr k)) π a b l w)
 recorded-calls R S (choice u v c) f π a b l (inl w) =
@@ -81,6 +82,7 @@ recorded-calls R S (call q xs c) f π a b l (inl w) =
     inl (w .0, w .1, w .2, f q (w .0) (w .1) (w .2) (inl refl) (w .3), w .4, w .5, w .6)
 recorded-calls R S (call q xs c) f π a b l (inr w) =
     inr (recorded-calls R S c (λ q a b l k. f q a b l (inr k)) π a b l w)
+recorded-calls R S (mirror x y c) f π a b l w = recorded-calls R S c f (naming x (π .roots y) π) a b l w
 
 -- what is worked out in a body depends on the rows of the routines that it calls alone
 pub calls-only :

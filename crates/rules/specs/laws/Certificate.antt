@@ -2,18 +2,20 @@
 use mathlib.Core.Path.{_≡_, refl, sym, ap, _∙_, subst}
 use mathlib.Core.Logic.{_≢_, _⊎_, inl, inr}
 use mathlib.Core.Bool.{Bool, true, false, not, _&&_, _||_}
-use mathlib.Core.List.{List, [], _∷_, _++_}
+use mathlib.Core.List.{List, [], _∷_, _++_, map}
 use mathlib.Core.Option.{Option, none, some, Option·none-ne-some}
 use Prim.Native.Nat.{ℕ, _≤_, _<_}
 use native.Mathlib.Decide.{decLt}
 use native.Mathlib.Omega.{arith}
 use lib.Dec.{T, eqb, leb}
 use lib.ListN.{length, List·getD-eq-default}
-use Rattle.table.specs.Program.{Code, end, new, lock, fork, choice, call, Routine, Program, empty, params, body}
+use Rattle.table.specs.Program.{Code, end, new, lock, fork, choice, call, mirror, Routine, Program, empty}
+use Rattle.table.specs.Program.{params, body}
 use Rattle.table.specs.WellFormed.{In}
 use Rattle.table.specs.Check.{in?}
 use Rattle.rules.specs.Label.{Label, own, forked, unknown, several, combine, cut, placed}
-use Rattle.rules.specs.Model.{Kept, renamed, Place, atHead, underLock, underFork, Recorded, Model, follows, Row}
+use Rattle.rules.specs.Model.{Kept, renamed, Place, atHead, naming, underLock, underFork}
+use Rattle.rules.specs.Model.{Recorded, Model, follows, Row}
 use Rattle.rules.specs.laws.Satisfies.{Pairs, RecordedFrom, RowOf, Satisfies}
 use Rattle.rules.specs.laws.Least.{recorded-mono, row-mono, recorded-of-rows, model-satisfies}
 use Rattle.rules.specs.laws.Least.{recorded-least, model-least}
@@ -113,13 +115,14 @@ taken P q xs θ h (entry s a b m) =
 -- the pairs that the code records, where the entries give the rows of the routines called
 abbrev pub recordsOf : Program → List Entry → Code → Place → List Pair
 recordsOf P es end w = []
-recordsOf P es (new x c) w = recordsOf P es c w
+recordsOf P es (new x c) w = recordsOf P es c (naming x x w)
 recordsOf P es (lock x c d) w =
-    only (not (in? x (w .nest))) (joined (w .holder) (some x) (w .thread))
+    only (not (in? x (w .nest))) (joined (w .holder) (some (w .roots x)) (w .thread))
     ++ (recordsOf P es c (underLock x w) ++ recordsOf P es d w)
-recordsOf P es (fork i c d) w = recordsOf P es c (underFork i) ++ recordsOf P es d w
+recordsOf P es (fork i c d) w = recordsOf P es c (underFork i w) ++ recordsOf P es d w
 recordsOf P es (choice u v c) w = recordsOf P es u w ++ (recordsOf P es v w ++ recordsOf P es c w)
-recordsOf P es (call q xs c) w = gather (taken P q xs (w .thread) (w .holder)) es ++ recordsOf P es c w
+recordsOf P es (call q xs c) w = gather (taken P q (map (w .roots) xs) (w .thread) (w .holder)) es ++ recordsOf P es c w
+recordsOf P es (mirror x y c) w = recordsOf P es c (naming x (w .roots y) w)
 
 module _ (P : Program) (es : List Entry) where
   -- what an entry must be to give the pair at a call
@@ -162,16 +165,18 @@ module _ (P : Program) (es : List Entry) where
       (c : Code) (w : Place) (a b : ℕ) (l : Label)
       → Found (pair a b l) (recordsOf P es c w) (RecordedFrom (RowOf P (Listed es)) c w a b l)
   is-recorded end w a b l = nowhere (pair a b l)
-  is-recorded (new x c) w a b l = is-recorded c w a b l
+  is-recorded (new x c) w a b l = is-recorded c (naming x x w) a b l
   is-recorded (lock x c d) w a b l =
       appended
       (changed (λ q. (q .0, q .1 .0, cc (q .1 .1), q .1 .2)) (λ q. (q .0, (q .1, ap some (sym (q .2)), q .3)))
-      (guarded (negated (is-in x (w .nest))) (is-joined (w .holder) (some x) (w .thread) a b l)))
+      (guarded (negated (is-in x (w .nest))) (is-joined (w .holder) (some (w .roots x)) (w .thread) a b l)))
       (appended (is-recorded c (underLock x w) a b l) (is-recorded d w a b l))
-  is-recorded (fork i c d) w a b l = appended (is-recorded c (underFork i) a b l) (is-recorded d w a b l)
+  is-recorded (fork i c d) w a b l = appended (is-recorded c (underFork i w) a b l) (is-recorded d w a b l)
   is-recorded (choice u v c) w a b l =
       appended (is-recorded u w a b l) (appended (is-recorded v w a b l) (is-recorded c w a b l))
-  is-recorded (call q xs c) w a b l = appended (is-called q xs (w .thread) (w .holder) a b l) (is-recorded c w a b l)
+  is-recorded (call q xs c) w a b l =
+      appended (is-called q (map (w .roots) xs) (w .thread) (w .holder) a b l) (is-recorded c w a b l)
+  is-recorded (mirror x y c) w a b l = is-recorded c (naming x (w .roots y) w) a b l
 
 -- the pair as an entry of routine r, where it is kept
 abbrev pub ofRoutine : ℕ → Pair → List Entry
@@ -306,7 +311,8 @@ pub is-recorded-by :
 is-recorded-by P t r a b l =
     changed
     (λ q. recorded-of-rows P (body P r) atHead a b l
-    (recorded-mono (RowOf P (Listed es)) (RowOf P (Model P)) (rows-of-model P es (in-model P)) (body P r) atHead a b l q))
+    (recorded-mono (RowOf P (Listed es)) (RowOf P (Model P)) (rows-of-model P es (in-model P)) (body P r) atHead a b l
+    q))
     (λ q. recorded-least P (Listed es) (closed-satisfies P es t) q)
     (is-recorded P es (body P r) atHead a b l)
   where

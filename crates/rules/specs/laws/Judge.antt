@@ -7,7 +7,7 @@ use Prim.Native.Nat.{ℕ, suc, _+_, _*_, _≤_, _<_}
 use native.Mathlib.Omega.{arith}
 use lib.Dec.{T, eqb, leb}
 use lib.ListN.{length}
-use Rattle.table.specs.Program.{Code, end, new, lock, fork, choice, call, Program, body}
+use Rattle.table.specs.Program.{Code, end, new, lock, fork, choice, call, mirror, Program, body}
 use Rattle.table.specs.WellFormed.{In, NoDup}
 use Rattle.rules.specs.Label.{Label, several}
 use Rattle.rules.specs.Model.{Ring}
@@ -27,6 +27,7 @@ callsOf (lock x c d) = callsOf c ++ callsOf d
 callsOf (fork i c d) = callsOf c ++ callsOf d
 callsOf (choice a b c) = callsOf a ++ (callsOf b ++ callsOf c)
 callsOf (call r xs c) = r ∷ callsOf c
+callsOf (mirror x y c) = callsOf c
 
 pub is-call : (c : Code) (q : ℕ) → Found q (callsOf c) (Calls c q)
 is-call end q = nowhere q
@@ -35,6 +36,7 @@ is-call (lock x c d) q = appended (is-call c q) (is-call d q)
 is-call (fork i c d) q = appended (is-call c q) (is-call d q)
 is-call (choice a b c) q = appended (is-call a q) (appended (is-call b q) (is-call c q))
 is-call (call r xs c) q = appended (alone q r) (is-call c q)
+is-call (mirror x y c) q = is-call c q
 
 -- routine 0, and the routines that those of the list call
 abbrev pub called : Program → List ℕ → List ℕ

@@ -5,7 +5,7 @@ use mathlib.Core.List.{List, _∷_}
 use Prim.Native.Nat.{ℕ, _<_}
 use native.Mathlib.Nat.{le-antisymm}
 use lib.ListN.{length}
-use Rattle.table.specs.Program.{Code, new, lock, fork, choice, call, Program, body}
+use Rattle.table.specs.Program.{Code, new, lock, fork, choice, call, mirror, Program, body}
 use Rattle.table.specs.WellFormed.{Scoped, WellFormed}
 use Rattle.rules.specs.Verdict.{Calls, Reached, first, then, Clear, RingAt}
 
@@ -31,6 +31,7 @@ calls-within P k s (choice a b c) q h (inr (inl w)) = calls-within P k s b q (h 
 calls-within P k s (choice a b c) q h (inr (inr w)) = calls-within P k s c q (h .2) w
 calls-within P k s (call r xs c) q h (inl e) = rw e (h .0)
 calls-within P k s (call r xs c) q h (inr w) = calls-within P k s c q (h .3) w
+calls-within P k s (mirror x y c) q h w = calls-within P k (x ∷ s) c q (h .2) w
 
 module _ (P : Program) (wf : WellFormed P) where
   pub body-calls : (r q : ℕ) → r < length P → Calls (body P r) q → q < length P

@@ -8,19 +8,19 @@ use native.Mathlib.Nat.{not-suc-le-zero}
 use native.Mathlib.Decide.{ℕ-discrete, decLt}
 use lib.ListN.{length, getD, set, length-set, length-append, List·getD-eq-default, List·getD-append}
 use lib.Seq.{getD-set-same, getD-set-other, getD-append-seam}
-use Rattle.table.specs.Program.{Code, end, new, lock, fork, choice, call, Program, params, body, names}
+use Rattle.table.specs.Program.{Code, end, new, lock, fork, choice, call, mirror, Program, params, body, names}
 use Rattle.table.specs.WellFormed.{onces, In}
 use Rattle.table.specs.WellFormed.{makes, starts, WellFormed}
-use Rattle.rules.specs.Model.{atHead, records}
+use Rattle.rules.specs.Model.{atHead, bind, records}
 use Rattle.rules.specs.Verdict.{first as reached-first, then}
-use Rattle.run.specs.Run.{Env, bind, held, Frame, frame, Thread, ended, at, State, thread, start, put}
+use Rattle.run.specs.Run.{Env, held, Frame, frame, Thread, ended, at, State, thread, start, put}
 use Rattle.run.specs.Run.{Side, first, second, step, Turn, turn, run, taken?}
 use Rattle.table.specs.laws.Lists.{In-map, NoDup-map}
 use Rattle.run.specs.laws.Update.{upd, upd-same, upd-other}
 use Rattle.run.specs.laws.History.{Activation, root, Item, item, age, History, Ran, with-lock, with-thread}
 use Rattle.run.specs.laws.Invariant.{todo, Here, Explained, Invariant, Holds}
 use Rattle.run.specs.laws.Steps.{step-ended, step-end, step-first, step-second, step-lock, step-new, step-fork}
-use Rattle.run.specs.laws.Steps.{step-call}
+use Rattle.run.specs.laws.Steps.{step-call, step-mirror}
 
 -- the threads as a function, in which a change of the list is a change at one place
 abbrev forms : List Thread → ℕ → Thread
@@ -167,6 +167,9 @@ module _ (P : Program) where
     valid-step s v t a (at (call r xs c) e fs) eq =
         let w = step-call P (v .history) (v .serials) (v .acts) (thread s) (v .good) t wf r xs c e fs eq in
         valid-put s v t _ (w .0) (suc (v .serials)) (running s t _ e fs eq) (w .1)
+    valid-step s v t a (at (mirror x y c) e fs) eq =
+        valid-put s v t _ (v .acts t) (v .serials) (running s t _ e fs eq)
+        (step-mirror P (v .history) (v .serials) (v .acts) (thread s) (v .good) t x y c e fs eq)
 
     -- the history of the start
     abbrev nothing : History
@@ -183,6 +186,7 @@ module _ (P : Program) where
       by = refl;
       inside = λ a b l w k. records w k;
       scoped = wf .scoped 0 (wf .some-routine);
+      fresh = wf .fresh 0 (wf .some-routine);
       stands = λ x i. absurd (rw (wf .main) at i);
       kept = λ x i. absurd i;
       over = λ u i. absurd i;

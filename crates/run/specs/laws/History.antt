@@ -15,7 +15,7 @@ use Rattle.rules.specs.Model.{renamed}
 use Rattle.run.specs.laws.Update.{upd, upd-same, upd-other}
 
 -- An activation: the root, of routine 0, or the child that a CALL makes: its caller, the routine called, the label
--- and the holder of the CALL's place, the names passed, the thread that ran the CALL, and a serial number.
+-- and the holder of the CALL's place, the roots of the names passed, the thread that ran the CALL, and a serial number.
 pub data Activation : Type 0 where
   root : Activation
   child : Activation → ℕ → Label → Option ℕ → List ℕ → ℕ → ℕ → Activation

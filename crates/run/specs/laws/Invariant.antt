@@ -8,7 +8,7 @@ use mathlib.Core.List.{List, [], _∷_, _++_, map}
 use mathlib.Core.Option.{Option, some}
 use Prim.Native.Nat.{ℕ, _<_}
 use Rattle.table.specs.Program.{Code, Program, params}
-use Rattle.table.specs.WellFormed.{Scoped, onces, In, NoDup}
+use Rattle.table.specs.WellFormed.{Scoped, Fresh, onces, In, NoDup}
 use Rattle.rules.specs.Label.{Label, placed}
 use Rattle.rules.specs.Model.{Kept, renamed, Place, Recorded, Model, Row}
 use Rattle.rules.specs.Verdict.{Calls, Reached}
@@ -89,8 +89,9 @@ module _ (P : Program) where
     pub by : By H A (place .thread) t
     pub inside : Inside A place c
     pub scoped : Scoped P (params P (routine A)) scope c
-    pub stands : (x : ℕ) → In x scope → Stands P H A x (e x)
-    pub kept : (x : ℕ) → In x (place .nest) → (u : ℕ) × Stands P H A x u × In u ls
+    pub fresh : Fresh scope c
+    pub stands : (x : ℕ) → In x scope → Stands P H A (place .roots x) (e x)
+    pub kept : (x : ℕ) → In x (place .nest) → In x scope × In (e x) ls
     pub over : (u : ℕ) → In u ls → Over H t A (place .holder) ls u
     pub reach : (q : ℕ) → Calls c q → Reached P q
 
@@ -148,8 +149,9 @@ module _ (P : Program) {H K : History} (up : Longer H K) where
     by = By-up P up A (w .place .thread) t (w .by);
     inside = w .inside;
     scoped = w .scoped;
-    stands = λ x i. Stands-up P up A x (e x) (w .stands x i);
-    kept = λ x i. let r = w .kept x i in (r .0, Stands-up P up A x (r .0) (r .1), r .2);
+    fresh = w .fresh;
+    stands = λ x i. Stands-up P up A (w .place .roots x) (e x) (w .stands x i);
+    kept = w .kept;
     over = λ u i. let r = w .over u i in record {
       name = r .name;
       lock = r .lock;

@@ -1,18 +1,19 @@
 -- A code at its place, one item further: each part of a code that is explained is explained, since it records no more
 -- and calls no more than the whole. A LOCK is on a lock that is held, or dependencies lead to its lock from each held.
-use mathlib.Core.Path.{_≡_, refl, subst}
+use mathlib.Core.Path.{_≡_, refl, ap, subst}
 use mathlib.Core.Logic.{inl, inr}
 use mathlib.Core.List.{List, [], _∷_}
 use mathlib.Core.Option.{Option}
 use Prim.Native.Nat.{ℕ}
 use native.Mathlib.Decide.{ℕ-discrete}
-use Rattle.table.specs.Program.{Code, lock, fork, choice, call, Program, params}
-use Rattle.table.specs.WellFormed.{Scoped, In}
+use Rattle.table.specs.Program.{Code, lock, fork, choice, call, mirror, Program, params}
+use Rattle.table.specs.WellFormed.{Scoped, Fresh, In}
 use Rattle.rules.specs.Label.{Label, forked}
-use Rattle.rules.specs.Model.{Place, nested, underLock, underFork, Recorded, at-lock, in-lock, after-lock, in-fork}
-use Rattle.rules.specs.Model.{after-fork, in-first, in-second, after-choice, after-call}
+use Rattle.rules.specs.Model.{Place, bind, naming, nested, underLock, underFork, Recorded, at-lock, in-lock}
+use Rattle.rules.specs.Model.{after-lock, in-fork, after-fork, in-first, in-second, after-choice, after-call}
+use Rattle.rules.specs.Model.{in-mirror}
 use Rattle.rules.specs.Verdict.{Calls}
-use Rattle.rules.specs.laws.Nest.{by-nest}
+use Rattle.rules.specs.laws.Nest.{by-nest, by-bind}
 use Rattle.run.specs.Run.{Env, Open, held, alternative, called}
 use Rattle.run.specs.laws.History.{Activation, root, child, routine, History, Single, Stands, stands-one, By}
 use Rattle.run.specs.laws.Invariant.{under, Lawful, Dependency, Path, there, onward, Over, Here}
@@ -52,48 +53,77 @@ module _ (P : Program) where
         {c d : Code} (w : Here P H t A e c ls)
         → ((a b : ℕ) (l : Label)
         → Recorded P d (w .place) a b l → Recorded P c (w .place) a b l)
-        → Scoped P (params P (routine A)) (w .scope) d → ((q : ℕ) → Calls d q → Calls c q)
+        → Scoped P (params P (routine A)) (w .scope) d → Fresh (w .scope) d → ((q : ℕ) → Calls d q → Calls c q)
         → Here P H t A e d ls
-    part w f k r = record {
+    part w f k new r = record {
       place = w .place;
       scope = w .scope;
       by = w .by;
       inside = λ a b l x. w .inside a b l (f a b l x);
       scoped = k;
+      fresh = new;
       stands = w .stands;
       kept = w .kept;
       over = w .over;
       reach = λ q x. w .reach q (r q x);
     }
 
+    -- a name of the nest is not the local x, and keeps its lock
+    pub kept-on :
+        {c : Code} (w : Here P H t A e c ls) (x l : ℕ) → ¬ In x (w .scope)
+        → (z : ℕ) → In z (w .place .nest) → In z (x ∷ w .scope) × In (bind x l e z) ls
+    kept-on w x l new z i = let r = w .kept z i in (
+      inr (r .0),
+      by-bind (λ u v. In v ls) x l l e e z (λ p. absurd (new (rw (← p) (r .0)))) (λ ne. r .1),
+    )
+
     pub choice-first : {a b c : Code} → Here P H t A e (choice a b c) ls → Here P H t A e a ls
-    choice-first w = part w (λ x y l r. in-first r) (w .scoped .0) (λ q r. inl r)
+    choice-first w = part w (λ x y l r. in-first r) (w .scoped .0) (w .fresh .0) (λ q r. inl r)
 
     pub choice-second : {a b c : Code} → Here P H t A e (choice a b c) ls → Here P H t A e b ls
-    choice-second w = part w (λ x y l r. in-second r) (w .scoped .1) (λ q r. inr (inl r))
+    choice-second w = part w (λ x y l r. in-second r) (w .scoped .1) (w .fresh .1) (λ q r. inr (inl r))
 
     pub choice-rest : {a b c : Code} → Here P H t A e (choice a b c) ls → Here P H t A e c ls
-    choice-rest w = part w (λ x y l r. after-choice r) (w .scoped .2) (λ q r. inr (inr r))
+    choice-rest w = part w (λ x y l r. after-choice r) (w .scoped .2) (w .fresh .2) (λ q r. inr (inr r))
 
     pub lock-rest : {x : ℕ} {c d : Code} → Here P H t A e (lock x c d) ls → Here P H t A e d ls
-    lock-rest w = part w (λ x y l r. after-lock r) (w .scoped .2) (λ q r. inr r)
+    lock-rest w = part w (λ x y l r. after-lock r) (w .scoped .2) (w .fresh .1) (λ q r. inr r)
 
     pub fork-rest : {i : ℕ} {c d : Code} → Here P H t A e (fork i c d) ls → Here P H t A e d ls
-    fork-rest w = part w (λ x y l r. after-fork r) (w .scoped .1) (λ q r. inr r)
+    fork-rest w = part w (λ x y l r. after-fork r) (w .scoped .1) (w .fresh .1) (λ q r. inr r)
 
     pub call-rest : {r : ℕ} {xs : List ℕ} {c : Code} → Here P H t A e (call r xs c) ls → Here P H t A e c ls
-    call-rest w = part w (λ x y l r. after-call r) (w .scoped .3) (λ q r. inr r)
+    call-rest w = part w (λ x y l r. after-call r) (w .scoped .3) (w .fresh) (λ q r. inr r)
+
+    -- what follows a MIRROR
+    pub mirror-rest :
+        {x y : ℕ} {c : Code} → Here P H t A e (mirror x y c) ls → Here P H t A (bind x (e y) e) c ls
+    mirror-rest {x} {y} w = record {
+      place = naming x (w .place .roots y) (w .place);
+      scope = x ∷ w .scope;
+      by = w .by;
+      inside = λ a b l r. w .inside a b l (in-mirror r);
+      scoped = w .scoped .2;
+      fresh = w .fresh .1;
+      stands = λ z i. by-bind (Stands P H A) x (w .place .roots y) (e y) (w .place .roots) e z
+          (λ p. w .stands y (w .scoped .1))
+          (λ ne. elim i [ inl p ↦ absurd (ne p) | inr j ↦ w .stands z j ]);
+      kept = kept-on w x (e y) (w .fresh .0);
+      over = w .over;
+      reach = w .reach;
+    }
 
     -- the block of a FORK, run by the new thread u
     pub fork-block :
         {i : ℕ} {c d : Code} {u : ℕ} → By H A (forked i) u
         → Here P H t A e (fork i c d) ls → Here P H u A e c []
     fork-block {i} b w = record {
-      place = underFork i;
+      place = underFork i (w .place);
       scope = w .scope;
       by = b;
       inside = λ x y l r. w .inside x y l (in-fork r);
       scoped = w .scoped .0;
+      fresh = w .fresh .0;
       stands = w .stands;
       kept = λ x i. absurd i;
       over = λ v i. absurd i;
@@ -101,31 +131,32 @@ module _ (P : Program) where
     }
 
     module _ (once : Single (H .maker) (H .made)) {x : ℕ} {c d : Code} (w : Here P H t A e (lock x c d) ls) where
-      here : Stands P H A x (e x)
+      here : Stands P H A (w .place .roots x) (e x)
       here = w .stands x (w .scoped .0)
 
       -- a LOCK on a name of the nest is on a lock that is held
       pub held-already : In x (w .place .nest) → In (e x) ls
-      held-already i =
-          let r = w .kept x i in subst (λ (v : ℕ). In v ls) (stands-one P H once A x (r .0) (e x) (r .1) here) (r .2)
+      held-already i = w .kept x i .1
 
       -- to the lock of any other LOCK dependencies lead from each lock held
       pub to-lock : Lawful P H A → ¬ In x (w .place .nest) → (u : ℕ) → In u ls → Path P H t ls (e x) u
-      to-lock law new u i = let r = w .over u i in step r (ℕ-discrete (r .name) x)
+      to-lock law new u i = let r = w .over u i in step r (ℕ-discrete (r .name) (w .place .roots x))
         where
-          step : (r : Over P H t A (w .place .holder) ls u) → Dec (r .name ≡ x) → Path P H t ls (e x) u
+          step :
+              (r : Over P H t A (w .place .holder) ls u) → Dec (r .name ≡ w .place .roots x) → Path P H t ls (e x) u
           step r (yes p) =
-              subst (λ (v : ℕ). Path P H t ls v u) (stands-one P H once A x (r .lock) (e x) (rw p at (r .stands)) here)
+              subst (λ (v : ℕ). Path P H t ls v u)
+              (stands-one P H once A (w .place .roots x) (r .lock) (e x) (rw p at (r .stands)) here)
               (r .path)
           step r (no ne) = extended (r .path) (r .held) (record {
             act = A;
             from = r .name;
-            to = x;
+            to = w .place .roots x;
             label = w .place .thread;
             differ = ne;
             lawful = law;
             by = w .by;
-            pair = w .inside (r .name) x (w .place .thread) (at-lock new (r .is-name) refl refl) (inl ne);
+            pair = w .inside (r .name) (w .place .roots x) _ (at-lock new (r .is-name) refl refl) (inl ne);
             stands-from = r .stands;
             stands-to = here;
           })
@@ -138,7 +169,8 @@ module _ (P : Program) where
         by = by-nest (λ v. By H A (v .thread) t) x (w .place) (λ i. w .by) (λ n. w .by);
         inside = λ a b l r. w .inside a b l (in-lock r);
         scoped = w .scoped .1;
-        stands = w .stands;
+        fresh = w .fresh .0;
+        stands = by-nest Means x (w .place) (λ i. w .stands) (λ n. w .stands);
         kept = by-nest Keeps x (w .place) (λ i. kept) new-kept;
         over = by-nest Covers x (w .place)
             (λ i u j. over-wider (w .over u (elim j [ inl p ↦ rw p (held-already i) | inr k ↦ k ])))
@@ -146,14 +178,17 @@ module _ (P : Program) where
         reach = λ q r. w .reach q (inl r);
       }
         where
+          Means : Place → Type 0
+          Means v = (y : ℕ) → In y (w .scope) → Stands P H A (v .roots y) (e y)
+
           Keeps : Place → Type 0
-          Keeps v = (y : ℕ) → In y (v .nest) → (u : ℕ) × Stands P H A y u × In u (e x ∷ ls)
+          Keeps v = (y : ℕ) → In y (v .nest) → In y (w .scope) × In (e y) (e x ∷ ls)
 
           kept : Keeps (w .place)
-          kept y i = let r = w .kept y i in (r .0, r .1, inr (r .2))
+          kept y i = let r = w .kept y i in (r .0, inr (r .1))
 
           new-kept : ¬ In x (w .place .nest) → Keeps (nested x (w .place))
-          new-kept n y (inl p) = (e x, rw p here, inl refl)
+          new-kept n y (inl p) = (rw p (w .scoped .0), inl (ap e p))
           new-kept n y (inr i) = kept y i
 
           Covers : Place → Type 0
@@ -161,7 +196,7 @@ module _ (P : Program) where
 
           new-over : ¬ In x (w .place .nest) → Covers (nested x (w .place))
           new-over n u i = record {
-            name = x;
+            name = w .place .roots x;
             lock = e x;
             is-name = refl;
             stands = here;

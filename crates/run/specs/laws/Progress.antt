@@ -9,7 +9,7 @@ use native.Mathlib.Omega.{arith}
 use native.Mathlib.Nat.{le-refl}
 use native.Mathlib.Decide.{ℕ-discrete, decLt}
 use lib.ListN.{length, List·getD-eq-default}
-use Rattle.table.specs.Program.{Code, end, new, lock, fork, choice, call}
+use Rattle.table.specs.Program.{Code, end, new, lock, fork, choice, call, mirror}
 use Rattle.table.specs.WellFormed.{In}
 use Rattle.run.specs.Run.{Env, Frame, Thread, ended, at, Wants, wants, State, thread, taken?}
 use Rattle.run.specs.Run.{Waits, Line, CanStep}
@@ -26,6 +26,7 @@ Locking (at (lock x c d) e fs) = Unit {0}
 Locking (at (fork i c d) e fs) = ⊥
 Locking (at (choice a b c) e fs) = ⊥
 Locking (at (call r xs c) e fs) = ⊥
+Locking (at (mirror x y c) e fs) = ⊥
 
 locking : {x : Thread} {l : ℕ} → Wants x l → Locking x
 locking (wants q) = tt
@@ -65,6 +66,7 @@ module _ (s : State) where
       go (at (fork i c d) e fs) q = free (fork i c d) e fs q (λ n. n)
       go (at (choice a b c) e fs) q = free (choice a b c) e fs q (λ n. n)
       go (at (call r xs c) e fs) q = free (call r xs c) e fs q (λ n. n)
+      go (at (mirror x y c) e fs) q = free (mirror x y c) e fs q (λ n. n)
       go (at (lock x c d) e fs) q = elim (taken? s t (e x)) [
         | yes h ↦ inr (inr (h .0, (e x, rw q (wants refl), h .1 .0, h .1 .1)))
         | no n ↦ inl (record {

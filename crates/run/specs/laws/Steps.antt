@@ -1,24 +1,25 @@
 -- Each kind of step keeps the invariant.
-use mathlib.Core.Path.{_≡_, refl, sym, ap, _∙_, subst}
+use mathlib.Core.Path.{_≡_, refl, sym, ap, subst}
 use mathlib.Core.Logic.{_⊎_, inl, inr}
-use mathlib.Core.List.{List, [], _∷_, _++_, append-assoc, append-nil, map-append}
-use Prim.Native.Nat.{ℕ, suc, _≤_, _<_}
+use mathlib.Core.List.{List, [], _∷_, _++_, map, append-assoc, append-nil, map-append}
+use mathlib.Core.Option.{some, Option·none-ne-some}
+use Prim.Native.Nat.{ℕ, zero, suc, _≤_, _<_}
 use native.Mathlib.Omega.{arith}
-use native.Mathlib.Decide.{ℕ-discrete}
 use native.Mathlib.Nat.{le-refl}
-use lib.ListN.{length, getD}
-use Rattle.table.specs.Program.{Code, end, new, lock, fork, choice, call, Program, params, body, names}
+use lib.ListN.{length, getD, getElem?}
+use Rattle.table.specs.Program.{Code, end, new, lock, fork, choice, call, mirror, Program, params, body, names}
 use Rattle.table.specs.WellFormed.{onces, In}
 use Rattle.table.specs.WellFormed.{NoDup, makes, starts, WellFormed}
 use Rattle.rules.specs.Label.{placed}
-use Rattle.rules.specs.Model.{atHead, at-call, records, in-new}
+use Rattle.rules.specs.Model.{atHead, bind, naming, at-call, records, in-new}
 use Rattle.rules.specs.Verdict.{Reached, then}
-use Rattle.run.specs.Run.{Env, bind, pass, Open, held, alternative, called, Frame, frame, Thread, ended, at}
+use Rattle.rules.specs.laws.Nest.{by-bind}
+use Rattle.run.specs.Run.{Env, pass, Open, held, alternative, called, Frame, frame, Thread, ended, at}
 use Rattle.run.specs.Run.{locks}
 use Rattle.table.specs.laws.Lists.{In-left, In-right, In-split, In-skip, In-map, NoDup-skip, NoDup-right}
 use Rattle.table.specs.laws.Lists.{NoDup-left, NoDup-apart, NoDup-join, NoDup-map, names-in, getD-in}
 use Rattle.run.specs.laws.Update.{upd, upd-same, upd-both}
-use Rattle.run.specs.laws.History.{Activation, child, routine, Item, item, age, History, Ran, Stands}
+use Rattle.run.specs.laws.History.{Activation, child, Item, item, age, History, Ran, Stands}
 use Rattle.run.specs.laws.History.{local, passed, Longer, same-history, with-lock, with-thread, lock-longer}
 use Rattle.run.specs.laws.History.{thread-longer, done-back, done-single}
 use Rattle.run.specs.laws.Invariant.{under, items, later, todo, Lawful, Here, Here-up, Frames-up, Lawful-up}
@@ -26,7 +27,15 @@ use Rattle.run.specs.laws.Invariant.{Holds}
 use Rattle.run.specs.laws.Invariant.{Explained, Invariant}
 use Rattle.run.specs.laws.Change.{Fresh, Free, change}
 use Rattle.run.specs.laws.Places.{under-lawful, choice-first, choice-second, choice-rest, lock-rest, fork-rest}
-use Rattle.run.specs.laws.Places.{call-rest, lock-block, fork-block}
+use Rattle.run.specs.laws.Places.{call-rest, lock-block, fork-block, mirror-rest, kept-on}
+
+-- an entry of a list, in the list of the values of f
+map-at :
+    {A B : Type 0} (f : A → B) (xs : List A) (i : ℕ) {x : A}
+    → getElem? xs i ≡ some x → getElem? (map f xs) i ≡ some (f x)
+map-at f [] i {x} e = absurd (Option·none-ne-some x e)
+map-at f (y ∷ xs) zero e = ap some (ap f (cc))
+map-at f (y ∷ xs) (suc i) e = map-at f xs i e
 
 -- the items of a code with blocks, sorted out
 module _ (A : Activation) (L : List Item) where
@@ -137,6 +146,16 @@ module _
       (λ k i. rw items-lock i)
       (λ l i. elim i [ inl p ↦ inr (rw p free) | inr j ↦ inl j ])
 
+  -- MIRROR
+  pub step-mirror :
+      (x y : ℕ) (c : Code) (e : Env) (fs : List Frame) → forms t ≡ at (mirror x y c) e fs
+      → Invariant P H n (upd acts t A) (upd forms t (at c (bind x (e y) e) fs))
+  step-mirror x y c e fs eq =
+      let w = explained-at (at (mirror x y c) e fs) eq in
+      keep (at (mirror x y c) e fs) (at c (bind x (e y) e) fs) A eq (mirror-rest P (w .0), w .1, w .2, w .3)
+      (λ k i. i)
+      (λ l i. inl i)
+
   -- NEW
   module _ (x : ℕ) (c : Code) (e : Env) (fs : List Frame) (eq : forms t ≡ at (new x c) e fs) where
     abbrev made-item : Item
@@ -155,29 +174,24 @@ module _
     was-new k i = todo-at (at (new x c) e fs) eq k i
 
     new-here : Here P H t A e (new x c) (locks fs) → Here P after-new t A (bind x (H .made) e) c (locks fs)
-    unfolding bind
     new-here v = let w = Here-up P new-longer v in record {
-      place = w .place;
+      place = naming x x (w .place);
       scope = x ∷ w .scope;
       by = w .by;
       inside = λ a b l r. w .inside a b l (in-new r);
       scoped = w .scoped .1;
-      stands = λ y i. step w y i (ℕ-discrete y x);
-      kept = w .kept;
+      fresh = w .fresh .1;
+      stands = λ y i. by-bind (Stands P after-new A) x x (H .made) (w .place .roots) e y (λ p. made-here w)
+          (λ ne. elim i [ inl p ↦ absurd (ne p) | inr j ↦ w .stands y j ]);
+      kept = kept-on P w x (H .made) (w .fresh .0);
       over = w .over;
       reach = w .reach;
     }
       where
-        step :
-            (w : Here P after-new t A e (new x c) (locks fs)) (y : ℕ) → (y ≡ x) ⊎ In y (w .scope)
-            → (d : Dec (y ≡ x)) → Stands P after-new A y (elim d [ yes p ↦ H .made | no m ↦ e y ])
-        step w y i (yes p) =
-            local
-            (let b : params P (routine A) < x = w .scoped .0 in let q : params P (routine A) < y = omega arith in q)
-            (let q : H .made < suc (H .made) = omega arith in q)
-            (upd-same (H .maker) (H .made) made-item (H .made) refl ∙ ap (λ (z : ℕ). item A (makes z)) (sym p))
-        step w y (inl p) (no m) = absurd (m p)
-        step w y (inr j) (no m) = w .stands y j
+        made-here : (w : Here P after-new t A e (new x c) (locks fs)) → Stands P after-new A x (H .made)
+        made-here w =
+            local (w .scoped .0) (let q : H .made < suc (H .made) = omega arith in q)
+            (upd-same (H .maker) (H .made) made-item (H .made) refl)
 
     new-ran :
         (k : Item) → ¬ In made-item new-todo → Ran after-new k
@@ -319,7 +333,7 @@ module _
     site = call-at .0
 
     abbrev callee : Activation
-    callee = child A r (site .place .thread) (site .place .holder) xs t n
+    callee = child A r (site .place .thread) (site .place .holder) (map (site .place .roots) xs) t n
 
     abbrev call-todo : List Item
     call-todo = items A c ++ later A fs
@@ -335,7 +349,8 @@ module _
             let len : length xs ≡ params P r = site .scoped .1 in
             let k = getD-in xs i (omega arith) in
             let name = site .stands (getD xs i 0) (site .scoped .2 (getD xs i 0) (k .0)) in
-            subst (λ (y : ℕ). Stands P H callee y (pass xs e y)) (sym p) (passed lt (k .1) name)
+            subst (λ (y : ℕ). Stands P H callee y (pass xs e y)) (sym p)
+            (passed lt (map-at (site .place .roots) xs i (k .1)) name)
 
     call-here : Here P H t callee (pass xs e) (body P r) (locks fs)
     call-here = record {
@@ -344,6 +359,7 @@ module _
       by = refl;
       inside = λ a b l w k. records w k;
       scoped = wf .scoped r (site .scoped .0);
+      fresh = wf .fresh r (site .scoped .0);
       stands = call-stands;
       kept = λ x i. absurd i;
       over = λ u i. let k = site .over u i in record {

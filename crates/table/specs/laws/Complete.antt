@@ -1,24 +1,24 @@
 -- Each program that a table can hold is accepted from its bytes.
-use mathlib.Core.Path.{_≡_, refl, sym, ap, subst, _∙_}
-use mathlib.Core.Logic.{_⊎_, inl, inr}
-use mathlib.Core.Bool.{Bool, true, false, cond, not, _&&_, _||_}
-use mathlib.Core.List.{List, [], _∷_, _++_, append-assoc, append-nil}
-use Prim.Native.Nat.{ℕ, zero, suc, _+_, _*_, _-_, _/_, _%_, max, _≤_, _<_}
+use mathlib.Core.Path.{_≡_, refl, sym, ap, _∙_}
+use mathlib.Core.Logic.{inl, inr}
+use mathlib.Core.Bool.{Bool, true, false, _||_}
+use mathlib.Core.List.{List, [], _∷_, _++_, append-assoc}
+use Prim.Native.Nat.{ℕ, suc, _+_, _*_, _-_, _/_, _%_, _≤_, _<_}
 use native.Mathlib.Omega.{arith}
-use lib.Dec.{leb, eqb, ltb}
-use lib.ListN.{length, getD, take, drop}
+use lib.Dec.{eqb}
+use lib.ListN.{length, getD}
 use lib.Seq.{take-at, drop-at}
-use borrow.Author.Tests.{lt-ltb, le-ltb, le-leb, lt-leb, eq-eqb, ne-eqb}
-use Rattle.table.specs.Constants.{most-routines, most-params, most-bytes, most-open, most-news, most-forks}
-use Rattle.table.specs.Constants.{END, OTHER, opOf}
-use Rattle.table.specs.Program.{Code, end, new, lock, fork, choice, call, Routine, Program, empty, params, body}
-use Rattle.table.specs.Program.{names, news, forks}
-use Rattle.table.specs.WellFormed.{In, Scoped}
-use Rattle.table.specs.Encoding.{encode, encodeBodies, counts, twoBytes, encodeTable, depth, Fits, WithinLimits}
-use Rattle.table.specs.Check.{Item, aNew, aLock, aFork, aChoice, aCall, then, Place, past, starting, after}
-use Rattle.table.specs.Check.{Block, ok, bad, Head, more, closed, wrong, Reader, opened, in?, named, lockItem}
-use Rattle.table.specs.Check.{callItem, itemOf, itemBy, joined, goOn, block, item, atHead, Outcome, refused}
-use Rattle.table.specs.Check.{accepted, withRoutine, bodyThen, bodies, small?, sections, checkTable}
+use borrow.Author.Tests.{le-ltb, le-leb, lt-leb, eq-eqb, ne-eqb}
+use Rattle.table.specs.Constants.{most-routines, most-params, most-bytes, most-open, most-locals, most-forks}
+use Rattle.table.specs.Constants.{END, OTHER}
+use Rattle.table.specs.Program.{Code, end, new, lock, fork, choice, call, mirror, Routine, Program, empty}
+use Rattle.table.specs.Program.{params}
+use Rattle.table.specs.WellFormed.{In}
+use Rattle.table.specs.Encoding.{encode, encodeBodies, counts, twoBytes, encodeTable, Fits, WithinLimits}
+use Rattle.table.specs.Check.{Item, aNew, aLock, aFork, aChoice, aCall, aMirror, then, Place, past, starting}
+use Rattle.table.specs.Check.{ok, more, in?, named}
+use Rattle.table.specs.Check.{after, joined, goOn, block, item, atHead}
+use Rattle.table.specs.Check.{accepted, bodies, small?, sections, checkTable}
 use Rattle.table.specs.laws.Sound.{closing, Stands, Each, Sits, counts-length, counts-params}
 use Rattle.table.specs.laws.Fuel.{block-step}
 
@@ -40,8 +40,8 @@ module _ (ks : List ℕ) (d : ℕ) (first : Bool) (w : Place) where
       ≡ ok c u → block ks d first w l ≡ ok (then i c) u
   by-item l t u i c e h = block-step ks d first w l ∙ ap (goOn (block ks) d first w) e ∙ ap (joined i) h
 
-  new-item : (l : List ℕ) → w .made < most-news → item ks d first w (1 ∷ l) ≡ more (aNew (w .own + w .made + 1)) l
-  new-item l lt = rw (lt-leb most-news (w .made) lt)
+  new-item : (l : List ℕ) → w .made < most-locals → item ks d first w (1 ∷ l) ≡ more (aNew (w .own + w .made + 1)) l
+  new-item l lt = rw (lt-leb most-locals (w .made) lt)
 
   lock-item : (x : ℕ) (l t : List ℕ) (c : Code) → (d ≡ 0 → ⊥) → In x (w .scope) → block ks (d - 1) false w l
       ≡ ok c t → item ks d first w (2 ∷ x ∷ l) ≡ more (aLock x c) t
@@ -67,6 +67,10 @@ module _ (ks : List ℕ) (d : ℕ) (first : Bool) (w : Place) where
     drop-at xs t (length xs) refl,
   )
 
+  mirror-item : (y : ℕ) (l : List ℕ) → w .made < most-locals → In y (w .scope)
+      → item ks d first w (7 ∷ y ∷ l) ≡ more (aMirror (w .own + w .made + 1) y) l
+  mirror-item y l lt i = rw (lt-leb most-locals (w .made) lt, In-in? y (w .scope) i)
+
 pub block-complete : (P : Program) (c : Code) (d : ℕ) (first : Bool) (w : Place) (t : List ℕ) → Stands P d w c
     → block (counts P) d first w (encode (closing first) c ++ t) ≡ ok c t
 block-complete P end d true w t s = block-step (counts P) d true w (5 ∷ t)
@@ -77,7 +81,7 @@ block-complete P (new x c) d first w t s =
       scoped = s .scoped .1;
       numbered = s .numbered .1;
       few-open = s .few-open;
-      few-news = omega arith;
+      few-locals = omega arith;
       few-forks = s .few-forks;
     } in
     by-item (counts P) d first w (1 ∷ (encode (closing first) c ++ t)) (encode (closing first) c ++ t) t (aNew x) c
@@ -89,14 +93,14 @@ block-complete P (lock x b c) d first w t s =
       scoped = s .scoped .1;
       numbered = s .numbered .0;
       few-open = omega arith;
-      few-news = omega arith;
+      few-locals = omega arith;
       few-forks = omega arith;
     } in
     let s₂ : Stands P d (past w b) c = record {
       scoped = s .scoped .2;
       numbered = s .numbered .1;
       few-open = omega arith;
-      few-news = omega arith;
+      few-locals = omega arith;
       few-forks = omega arith;
     } in
     rw append-assoc
@@ -112,14 +116,14 @@ block-complete P (fork i b c) d first w t s =
       scoped = s .scoped .0;
       numbered = s .numbered .1;
       few-open = omega arith;
-      few-news = omega arith;
+      few-locals = omega arith;
       few-forks = omega arith;
     } in
     let s₂ : Stands P d (past (starting w) b) c = record {
       scoped = s .scoped .1;
       numbered = s .numbered .2;
       few-open = omega arith;
-      few-news = omega arith;
+      few-locals = omega arith;
       few-forks = omega arith;
     } in
     rw append-assoc
@@ -135,21 +139,21 @@ block-complete P (choice a b c) d first w t s =
       scoped = s .scoped .0;
       numbered = s .numbered .0;
       few-open = omega arith;
-      few-news = omega arith;
+      few-locals = omega arith;
       few-forks = omega arith;
     } in
     let s₂ : Stands P (d - 1) (past w a) b = record {
       scoped = s .scoped .1;
       numbered = s .numbered .1;
       few-open = omega arith;
-      few-news = omega arith;
+      few-locals = omega arith;
       few-forks = omega arith;
     } in
     let s₃ : Stands P d (past (past w a) b) c = record {
       scoped = s .scoped .2;
       numbered = s .numbered .2;
       few-open = omega arith;
-      few-news = omega arith;
+      few-locals = omega arith;
       few-forks = omega arith;
     } in
     let u : List ℕ = encode (closing first) c ++ t in
@@ -168,7 +172,7 @@ block-complete P (call r xs c) d first w t s =
       scoped = s .scoped .3;
       numbered = s .numbered;
       few-open = s .few-open;
-      few-news = s .few-news;
+      few-locals = s .few-locals;
       few-forks = s .few-forks;
     } in
     rw append-assoc
@@ -178,6 +182,20 @@ block-complete P (call r xs c) d first w t s =
     ≡ length P = counts-length P in let h′ : r < length P = s .scoped .0 in omega arith) (counts-params P r)
     (s .scoped .1) (s .scoped .2))
     (block-complete P c d first w t s′))
+block-complete P (mirror x y c) d first w t s =
+    let e : w .own + w .made + 1 ≡ x = sym (s .numbered .0) in
+    let s′ : Stands P d (after w (aMirror x y)) c = record {
+      scoped = s .scoped .2;
+      numbered = s .numbered .1;
+      few-open = s .few-open;
+      few-locals = omega arith;
+      few-forks = s .few-forks;
+    } in
+    by-item (counts P) d first w (7 ∷ y ∷ (encode (closing first) c ++ t)) (encode (closing first) c ++ t) t
+    (aMirror x y) c
+    (mirror-item (counts P) d first w y (encode (closing first) c ++ t) (omega arith) (s .scoped .1)
+    ∙ ap (λ (v : ℕ). more (aMirror v y) (encode (closing first) c ++ t)) e)
+    (block-complete P c d first (after w (aMirror x y)) t s′)
 
 bodies-complete : (P Q : Program) → Each (Sits P) Q → bodies (counts P) (counts Q) (encodeBodies Q) ≡ accepted Q
 bodies-complete P [] h = refl
@@ -192,7 +210,7 @@ sit P q f = record {
   scoped = f .scoped;
   numbered = f .numbered;
   few-open = f .few-open;
-  few-news = omega arith;
+  few-locals = omega arith;
   few-forks = omega arith;
 }
 

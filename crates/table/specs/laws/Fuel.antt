@@ -8,12 +8,13 @@ use Prim.Native.Nat.{ℕ, zero, suc, _+_, _-_, _≤_, _<_}
 use native.Mathlib.Omega.{arith}
 use lib.Dec.{leb, eqb}
 use lib.ListN.{length, getD, drop, length-drop}
-use Rattle.table.specs.Constants.{most-news, most-forks}
-use Rattle.table.specs.Constants.{Op, END, NEW, LOCK, FORK, CHOICE, OTHER, CALL, opOf}
+use Rattle.table.specs.Constants.{most-locals, most-forks}
+use Rattle.table.specs.Constants.{Op, END, NEW, LOCK, FORK, CHOICE, OTHER, CALL, MIRROR, opOf}
 use Rattle.table.specs.Program.{Code}
-use Rattle.table.specs.Check.{Item, aNew, aLock, aFork, aChoice, Place, past, starting, after}
+use Rattle.table.specs.Check.{Item, aLock, aFork, aChoice, Place, past, starting, after}
 use Rattle.table.specs.Check.{Block, ok, bad, Head, more, closed, wrong, Reader, opened, in?, named}
-use Rattle.table.specs.Check.{lockItem, callItem, itemOf, itemIf, itemBy, joined, goOn, blockBy, block, item}
+use Rattle.table.specs.Check.{lockItem, callItem, mirrorItem, itemOf, itemIf, itemBy, joined, goOn, blockBy}
+use Rattle.table.specs.Check.{block, item}
 use Rattle.table.specs.laws.Cases.{cond-cases}
 
 -- a block of the bytes l was read, with fewer bytes left, or refused by 7 to 13
@@ -54,10 +55,15 @@ module _ (read : Reader) (hr : Ahead read) (ks : List ℕ) (d : ℕ) (first : Bo
       q : ℕ
       q = getD ks r 0
 
+  mirror-ahead : (b : ℕ) (l : List ℕ) → AheadItem (b ∷ l) (mirrorItem w l)
+  mirror-ahead b [] = omega arith
+  mirror-ahead b (y ∷ l) =
+      cond-cases (AheadItem (b ∷ y ∷ l)) (in? y (w .scope)) _ _ (λ e. omega arith) (λ e. omega arith)
+
   itemOf-ahead : (b : ℕ) (o : Op) (l : List ℕ) → AheadItem (b ∷ l) (itemOf read ks d first w o l)
   itemOf-ahead b END l = cond-cases (AheadItem (b ∷ l)) first _ _ (λ e. omega arith) (λ e. omega arith)
   itemOf-ahead b NEW l =
-      cond-cases (AheadItem (b ∷ l)) (leb most-news (w .made)) _ _ (λ e. omega arith) (λ e. omega arith)
+      cond-cases (AheadItem (b ∷ l)) (leb most-locals (w .made)) _ _ (λ e. omega arith) (λ e. omega arith)
   itemOf-ahead b LOCK l = cond-cases (AheadItem (b ∷ l)) (eqb d 0) _ _ (λ e. omega arith) (λ e. lock-ahead b l)
   itemOf-ahead b FORK l = cond-cases (AheadItem (b ∷ l)) (eqb d 0) _ _ (λ e. omega arith)
       (λ e. cond-cases (AheadItem (b ∷ l)) (leb most-forks (w .started)) _ _ (λ e′. omega arith)
@@ -70,6 +76,8 @@ module _ (read : Reader) (hr : Ahead read) (ks : List ℕ) (d : ℕ) (first : Bo
       (hr (d - 1) false (past w c) t) (λ c′ u a′. omega arith)))
   itemOf-ahead b OTHER l = cond-cases (AheadItem (b ∷ l)) first _ _ (λ e. omega arith) (λ e. omega arith)
   itemOf-ahead b CALL l = call-ahead b l
+  itemOf-ahead b MIRROR l =
+      cond-cases (AheadItem (b ∷ l)) (leb most-locals (w .made)) _ _ (λ e. omega arith) (λ e. mirror-ahead b l)
 
   itemBy-ahead : (l : List ℕ) → AheadItem l (itemBy read ks d first w l)
   itemBy-ahead [] = omega arith
@@ -128,6 +136,7 @@ module _ (p q : Reader) (hp : Ahead p) (ks : List ℕ) (d : ℕ) (first : Bool) 
       (λ c t a. rw (e (d - 1) false (past w c) t (omega arith))))
   itemOf-agree b OTHER l e = refl
   itemOf-agree b CALL l e = refl
+  itemOf-agree b MIRROR l e = refl
 
   itemBy-agree : (l : List ℕ) → Agree p q l → itemBy p ks d first w l ≡ itemBy q ks d first w l
   itemBy-agree [] e = refl

@@ -4,7 +4,8 @@ use Prim.Native.Nat.{_+_, _≤_}
 use native.Mathlib.Omega.{arith}
 use lib.ListN.{length, length-append}
 use Rattle.table.specs.Constants.{Op, END, OTHER}
-use Rattle.table.specs.Program.{Code, end, new, lock, fork, choice, call, Program, items, programItems}
+use Rattle.table.specs.Program.{Code, end, new, lock, fork, choice, call, mirror, Program, items}
+use Rattle.table.specs.Program.{programItems}
 use Rattle.table.specs.Encoding.{encode, encodeBodies}
 
 -- every code has an item: the one that closes it
@@ -15,6 +16,7 @@ items-some (lock x b c) = omega arith
 items-some (fork i b c) = omega arith
 items-some (choice a b c) = omega arith
 items-some (call r xs c) = omega arith
+items-some (mirror x y c) = omega arith
 
 -- a block and what follows it
 items-two : (y z : Op) (b c : Code) → items b ≤ length (encode y b) → items c ≤ length (encode z c)
@@ -33,6 +35,7 @@ items-bytes z (choice a b c) =
 items-bytes z (call r xs c) =
     let h : items c ≤ length (encode z c) = items-bytes z c in
     omega (arith, length-append xs (encode z c))
+items-bytes z (mirror x y c) = let h : items c ≤ length (encode z c) = items-bytes z c in omega arith
 
 pub items-bodies : (P : Program) → programItems P ≤ length (encodeBodies P)
 items-bodies [] = omega arith

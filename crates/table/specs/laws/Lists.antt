@@ -92,6 +92,11 @@ pub names-in : (k x : ℕ) → In x (names k) → (i : ℕ) × (x ≡ suc i) × 
 names-in (suc k) x (inl p) = (k, p, omega arith)
 names-in (suc k) x (inr j) = let r = names-in k x j in (r .0, r .1, (let lt : r .0 < k = r .2 in omega arith))
 
+-- so it is at most k
+pub names-low : (k x : ℕ) → In x (names k) → x ≤ k
+names-low k x i =
+    let r = names-in k x i in let e : x ≡ suc (r .0) = r .1 in let l : r .0 < k = r .2 in omega arith
+
 pub getD-in :
     (xs : List ℕ) (i : ℕ) → i < length xs → In (getD xs i 0) xs × (getElem? xs i ≡ some (getD xs i 0))
 getD-in [] i lt = absurd (omega arith)

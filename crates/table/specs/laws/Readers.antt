@@ -1,14 +1,16 @@
 -- What the readers of bodies answer at an offset of the section s: the check's reading of the bytes from there on, with
 -- the names in scope as a mask and the bytes left as an offset. Only contracts of functions inside this crate cite it.
 use mathlib.Core.Path.{_≡_}
-use mathlib.Core.Bool.{Bool, true, false}
+use mathlib.Core.Bool.{Bool, true, false, cond}
 use mathlib.Core.List.{List}
 use Prim.Native.Nat.{ℕ, _+_, _-_, _^_, _≤_, _<_}
+use lib.Dec.{leb}
 use lib.ListN.{length, getD, drop}
-use Rattle.table.specs.Constants.{most-routines, most-params, most-open, most-news, most-forks}
-use Rattle.table.specs.Program.{Code, news, forks, items, programItems}
-use Rattle.table.specs.Check.{Item, aNew, aLock, aFork, aChoice, aCall, Place, Block, ok, bad}
-use Rattle.table.specs.Check.{Head, more, closed, wrong, callItem, block, item, atHead, Outcome, refused, accepted}
+use Rattle.table.specs.Constants.{most-routines, most-params, most-open, most-locals, most-forks}
+use Rattle.table.specs.Program.{Code, locals, forks, items, programItems}
+use Rattle.table.specs.Check.{Item, aNew, aLock, aFork, aChoice, aCall, aMirror, Place, Block, ok, bad}
+use Rattle.table.specs.Check.{Head, more, closed, wrong, callItem, mirrorItem, block, item, atHead, Outcome}
+use Rattle.table.specs.Check.{refused, accepted}
 use Rattle.table.specs.laws.ScopeMask.{bits}
 use Rattle.table.specs.declared.bodies.Counts.{Counts}
 use Rattle.table.specs.declared.bodies.Opening.{Opening}
@@ -22,31 +24,32 @@ use Rattle.table.specs.declared.Checked.the-variants.{Accepted, Refused}
 
 -- the place that the code's numbers stand for
 abbrev pub placeOf : ℕ → ℕ → Counts → Place
-placeOf own m n = record { own = own; scope = bits m; made = n .news; started = n .forks }
+placeOf own m n = record { own = own; scope = bits m; made = n .locals; started = n .forks }
 
 -- the counts with one item more
 abbrev pub withItem : Counts → Counts
-withItem n = record { news = n .news; forks = n .forks; items = n .items + 1 }
+withItem n = record { locals = n .locals; forks = n .forks; items = n .items + 1 }
 
--- the counts with one NEW more
-abbrev pub withNew : Counts → Counts
-withNew n = record { news = n .news + 1; forks = n .forks; items = n .items + 1 }
+-- the counts with one NEW or MIRROR more
+abbrev pub withLocal : Counts → Counts
+withLocal n = record { locals = n .locals + 1; forks = n .forks; items = n .items + 1 }
 
 -- the counts with one FORK more
 abbrev pub withFork : Counts → Counts
-withFork n = record { news = n .news; forks = n .forks + 1; items = n .items + 1 }
+withFork n = record { locals = n .locals; forks = n .forks + 1; items = n .items + 1 }
 
 -- the counts after a block
 abbrev pub countsPast : Counts → Code → Counts
-countsPast n c = record { news = n .news + news c; forks = n .forks + forks c; items = n .items + items c }
+countsPast n c = record { locals = n .locals + locals c; forks = n .forks + forks c; items = n .items + items c }
 
 -- the counts after an item
 abbrev pub countsAfter : Counts → Item → Counts
-countsAfter n (aNew x) = withNew n
+countsAfter n (aNew x) = withLocal n
 countsAfter n (aLock x c) = countsPast (withItem n) c
 countsAfter n (aFork i c) = countsPast (withFork n) c
 countsAfter n (aChoice a b) = countsPast (countsPast (withItem n) a) b
 countsAfter n (aCall r xs) = withItem n
+countsAfter n (aMirror x y) = withLocal n
 
 -- the mask of the names in scope after an item
 abbrev pub scopeAfter : ℕ → Item → ℕ
@@ -55,6 +58,7 @@ scopeAfter m (aLock x c) = m
 scopeAfter m (aFork i c) = m
 scopeAfter m (aChoice a b) = m
 scopeAfter m (aCall r xs) = m
+scopeAfter m (aMirror x y) = m + 2 ^ x
 
 -- a block that was read, with offsets
 abbrev pub readOf : List ℕ → Counts → Block → BlockRead
@@ -96,14 +100,14 @@ finished ks s d own m (Fault e) = Wrong e
 -- what holds of the numbers wherever a reader is called: each name is below 16, and an item takes a byte at least
 pub record Ready (at own m : ℕ) (n : Counts) : Type 0 where
   pub few-params : own ≤ most-params
-  pub few-news : n .news ≤ most-news
+  pub few-locals : n .locals ≤ most-locals
   pub few-forks : n .forks ≤ most-forks
-  pub below : m < 2 ^ (own + n .news + 1)
+  pub below : m < 2 ^ (own + n .locals + 1)
   pub few-items : n .items ≤ at
 
 -- the counts at the head of a body, with i items before it
 abbrev pub fresh : ℕ → Counts
-fresh i = record { news = 0; forks = 0; items = i }
+fresh i = record { locals = 0; forks = 0; items = i }
 
 -- what the reader of a body with k parameters answers, with i items before it
 abbrev pub bodyAnswer : List ℕ → List ℕ → ℕ → ℕ → ℕ → BlockRead
@@ -141,6 +145,23 @@ callOf s m n (wrong e) = Fault e
 -- what stands at a CALL whose code is at the offset
 abbrev pub callAnswer : List ℕ → List ℕ → ℕ → ℕ → Counts → Opening
 callAnswer ks s at m n = callOf s m n (callItem ks (placeOf 0 m n) (drop (at + 1) s))
+
+-- what is asked of the numbers at a MIRROR
+pub record MirrorReady (s : List ℕ) (at own m : ℕ) (n : Counts) : Type 0 where
+  pub inside : at < length s
+  pub ready : Ready at own m n
+
+-- an item without a block that was read, with offsets
+abbrev pub plainOf : List ℕ → ℕ → Counts → Head → Opening
+plainOf s m n (more i t) = Plain (length s - length t) (scopeAfter m i) (countsAfter n i)
+plainOf s m n (closed t) = Close (length s - length t)
+plainOf s m n (wrong e) = Fault e
+
+-- what stands at a MIRROR whose code is at the offset
+abbrev pub mirrorAnswer : List ℕ → ℕ → ℕ → ℕ → Counts → Opening
+mirrorAnswer s at own m n =
+    plainOf s m n
+    (cond (leb most-locals (n .locals)) (wrong 11) (mirrorItem (placeOf own m n) (drop (at + 1) s)))
 
 -- the table T has n routines, and all its parameter counts and its body count are there
 pub record HasCounts (T : List ℕ) (n : ℕ) : Type 0 where

@@ -1,25 +1,26 @@
 -- A table that is accepted holds the bytes of the program, and the program keeps the rules.
 use mathlib.Core.Path.{_≡_, refl, sym, ap, subst, _∙_}
-use mathlib.Core.Logic.{_⊎_, inl, inr}
+use mathlib.Core.Logic.{inl, inr}
 use mathlib.Core.Bool.{Bool, true, false, cond, not, _&&_, _||_}
 use mathlib.Core.List.{List, [], _∷_, _++_, append-assoc}
-use Prim.Native.Nat.{ℕ, zero, suc, _+_, _*_, _-_, _/_, _%_, max, _≤_, _<_}
+use Prim.Native.Nat.{ℕ, zero, suc, _+_, _*_, _-_, _/_, _%_, _≤_, _<_}
 use native.Mathlib.Omega.{arith}
 use lib.Dec.{leb, eqb, ltb}
 use lib.ListN.{length, getD, take, drop, take-append-drop, length-drop}
 use lib.Seq.{length-take-le, getD-drop}
 use borrow.Author.Tests.{leb-true, leb-false, ltb-false, eqb-true, eqb-false, not-false}
-use Rattle.table.specs.Constants.{most-routines, most-params, most-bytes, most-open, most-news, most-forks}
-use Rattle.table.specs.Constants.{Op, END, OTHER, code, opOf}
-use Rattle.table.specs.Program.{Code, end, new, lock, fork, choice, call, Routine, Program, empty, params, body}
-use Rattle.table.specs.Program.{names, news, forks}
+use Rattle.table.specs.Constants.{most-routines, most-params, most-bytes, most-open, most-locals, most-forks}
+use Rattle.table.specs.Constants.{Op, END, OTHER, code}
+use Rattle.table.specs.Program.{Code, Routine, Program, empty, params}
+use Rattle.table.specs.Program.{locals, forks}
 use Rattle.table.specs.WellFormed.{In, Scoped}
 use Rattle.table.specs.Encoding.{Numbered, encode, encodeBodies, counts, twoBytes, encodeTable, depth, Fits}
 use Rattle.table.specs.Encoding.{WithinLimits}
-use Rattle.table.specs.Check.{Item, aNew, aLock, aFork, aChoice, aCall, then, Place, past, starting, after}
+use Rattle.table.specs.Check.{Item, aNew, aLock, aFork, aChoice, then, Place, past, starting}
 use Rattle.table.specs.Check.{Block, ok, bad, Head, more, closed, wrong, Reader, opened, in?, named, lockItem}
-use Rattle.table.specs.Check.{callItem, itemOf, itemBy, joined, goOn, blockBy, block, atHead, Outcome, refused}
-use Rattle.table.specs.Check.{accepted, withRoutine, bodyThen, bodies, small?, sections, checkTable}
+use Rattle.table.specs.Check.{after, callItem, mirrorItem, itemBy, joined, goOn, blockBy, block, atHead}
+use Rattle.table.specs.Check.{Outcome, refused, accepted, withRoutine, bodyThen, bodies, small?, sections}
+use Rattle.table.specs.Check.{checkTable}
 use Rattle.table.specs.laws.Cases.{cond-cases, and-left, and-right, or-false-left, or-false-right}
 
 -- the kind of item that closes a block
@@ -32,7 +33,7 @@ pub record Stands (P : Program) (d : ℕ) (w : Place) (c : Code) : Type 0 where
   pub scoped : Scoped P (w .own) (w .scope) c
   pub numbered : Numbered (w .own) (w .made) (w .started) c
   pub few-open : depth c ≤ d
-  pub few-news : news c ≤ most-news - w .made
+  pub few-locals : locals c ≤ most-locals - w .made
   pub few-forks : forks c ≤ most-forks - w .started
 
 pub in?-In : (x : ℕ) (s : List ℕ) → in? x s ≡ true → In x s
@@ -103,21 +104,21 @@ module _ (P : Program) where
         scoped = tt;
         numbered = tt;
         few-open = omega arith;
-        few-news = omega arith;
+        few-locals = omega arith;
         few-forks = omega arith;
       },
     )
     goOn-right read hr (wrong e) h = tt
 
   module _ (read : Reader) (hr : Right read) (d : ℕ) (first : Bool) (w : Place) where
-    new-right : (l : List ℕ) → w .made < most-news → RightH d first w (1 ∷ l) (more (aNew (w .own + w .made + 1)) l)
+    new-right : (l : List ℕ) → w .made < most-locals → RightH d first w (1 ∷ l) (more (aNew (w .own + w .made + 1)) l)
     new-right l lt c u e s = (
       ap (λ (v : List ℕ). 1 ∷ v) e,
       record {
         scoped = (omega arith, s .scoped);
         numbered = (refl, s .numbered);
         few-open = s .few-open;
-        few-news = omega arith;
+        few-locals = omega arith;
         few-forks = s .few-forks;
       },
     )
@@ -135,7 +136,7 @@ module _ (P : Program) where
             scoped = (in?-In x (w .scope) i, s .scoped, s′ .scoped);
             numbered = (s .numbered, s′ .numbered);
             few-open = omega arith;
-            few-news = omega arith;
+            few-locals = omega arith;
             few-forks = omega arith;
           },
         )))
@@ -152,7 +153,7 @@ module _ (P : Program) where
             scoped = (s .scoped, s′ .scoped);
             numbered = (refl, s .numbered, s′ .numbered);
             few-open = omega arith;
-            few-news = omega arith;
+            few-locals = omega arith;
             few-forks = omega arith;
           },
         ))
@@ -177,7 +178,7 @@ module _ (P : Program) where
               s″ .numbered,
             );
             few-open = omega arith;
-            few-news = omega arith;
+            few-locals = omega arith;
             few-forks = omega arith;
           },
         )))
@@ -201,7 +202,7 @@ module _ (P : Program) where
             );
             numbered = s .numbered;
             few-open = s .few-open;
-            few-news = s .few-news;
+            few-locals = s .few-locals;
             few-forks = s .few-forks;
           },
         ))
@@ -209,6 +210,22 @@ module _ (P : Program) where
       where
         q : ℕ
         q = getD (counts P) r 0
+
+    mirror-right : (l : List ℕ) → w .made < most-locals → RightH d first w (7 ∷ l) (mirrorItem w l)
+    mirror-right [] lt = tt
+    mirror-right (y ∷ l) lt =
+        cond-cases (RightH d first w (7 ∷ y ∷ l)) (in? y (w .scope)) _ _
+        (λ i c u e s. (
+          ap (λ (v : List ℕ). 7 ∷ y ∷ v) e,
+          record {
+            scoped = (omega arith, in?-In y (w .scope) i, s .scoped);
+            numbered = (refl, s .numbered);
+            few-open = s .few-open;
+            few-locals = omega arith;
+            few-forks = s .few-forks;
+          },
+        ))
+        (λ i. tt)
 
     end-right : (f : Bool) (l : List ℕ) → f ≡ first → RightH d first w (0 ∷ l) (cond f (wrong 9) (closed l))
     end-right true l e = tt
@@ -221,8 +238,8 @@ module _ (P : Program) where
     itemBy-right : (l : List ℕ) → RightH d first w l (itemBy read (counts P) d first w l)
     itemBy-right [] = tt
     itemBy-right (zero ∷ l) = end-right first l refl
-    itemBy-right (suc zero ∷ l) = cond-cases (RightH d first w (1 ∷ l)) (leb most-news (w .made)) _ _ (λ e. tt)
-        (λ e. new-right l (leb-false most-news (w .made) e))
+    itemBy-right (suc zero ∷ l) = cond-cases (RightH d first w (1 ∷ l)) (leb most-locals (w .made)) _ _ (λ e. tt)
+        (λ e. new-right l (leb-false most-locals (w .made) e))
     itemBy-right (suc (suc zero) ∷ l) = cond-cases (RightH d first w (2 ∷ l)) (eqb d 0) _ _ (λ e. tt)
         (λ e. lock-right l (eqb-false d 0 e))
     itemBy-right (suc (suc (suc zero)) ∷ l) =
@@ -233,7 +250,9 @@ module _ (P : Program) where
         (λ e. choice-right l (eqb-false d 0 e))
     itemBy-right (suc (suc (suc (suc (suc zero)))) ∷ l) = other-right first l refl
     itemBy-right (suc (suc (suc (suc (suc (suc zero))))) ∷ l) = call-right l
-    itemBy-right (suc (suc (suc (suc (suc (suc (suc b)))))) ∷ l) = tt
+    itemBy-right (suc (suc (suc (suc (suc (suc (suc zero)))))) ∷ l) = cond-cases (RightH d first w (7 ∷ l))
+        (leb most-locals (w .made)) _ _ (λ e. tt) (λ e. mirror-right l (leb-false most-locals (w .made) e))
+    itemBy-right (suc (suc (suc (suc (suc (suc (suc (suc b))))))) ∷ l) = tt
 
   pub blockBy-right : (f : ℕ) → Right (blockBy f (counts P))
   unfolding blockBy
@@ -322,7 +341,7 @@ fit P q le s = record {
   scoped = s .scoped;
   numbered = s .numbered;
   few-open = s .few-open;
-  few-news = omega arith;
+  few-locals = omega arith;
   few-forks = omega arith;
 }
 

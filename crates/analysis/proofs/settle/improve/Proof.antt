@@ -20,12 +20,7 @@ size-requires c κs = search needs
 worked-out-requires : tie.Need-worked-out-requires
 worked-out-requires c κs =
     let p = c .before .before .before .before .before .before .pre in
-    record {
-      program = p .program;
-      routine = c .before .before .before .before .before .before .args .r;
-      body-of = p .body-of;
-      long = p .long;
-    }
+    record { program = p .program; body-of = p .body-of; long = p .long }
 
 ring-name-requires : tie.Need-ring-name-requires
 ring-name-requires c κs = search needs
@@ -55,11 +50,11 @@ returns c =
     let x = c .before .before .before .before .ring-name in
     λ P o. record {
       grid = g .result;
-      pairs = g .ensures P (a .r) o;
+      pairs = g .ensures P o;
       added = added-by P (a .ks .now) (a .s .now) (a .at) (a .r) o (k .result) (k .ensures .0)
           (c .before .before .with-row .ensures);
       named = named-by P (a .model .now) (a .r) (g .result) (x .result) (omega (arith, g .ok .1 .0 .1))
-          (g .ensures P (a .r) o) (x .ensures);
+          (g .ensures P o) (x .ensures);
     }
 
 pub improve-spec : {M : Type 1} → statement M

@@ -31,8 +31,8 @@ put-row-requires c κs =
     let a = b .args in
     let q = c .before .before .before .size in
     let k = c .before .size2 in (
-      row-ready (a .ks .now) (a .s .now) (a .rows .now) (a .at) (a .t) (b .pre .0) (q .result) (k .result)
-          (q .ensures .0) (k .ensures .0),
+      row-ready (a .roots .now) (a .ks .now) (a .s .now) (a .rows .now) (a .at) (a .t) (b .pre .0) (q .result)
+          (k .result) (q .ensures .0) (k .ensures .0),
       b .pre .1,
       b .pre .2,
     )
@@ -43,8 +43,8 @@ returns c =
     let a = b .args in
     let q = c .before .before .before .before .size in
     let k = c .before .before .size2 in (
-      row-gains (a .ks .now) (a .s .now) (a .rows .now) (a .at) (a .t) (b .pre .0) (q .result) (k .result)
-          (q .ensures .0) (k .ensures .0) (a .h) (c .put-row .ensures .0),
+      row-gains (a .roots .now) (a .ks .now) (a .s .now) (a .rows .now) (a .at) (a .t) (b .pre .0) (q .result)
+          (k .result) (q .ensures .0) (k .ensures .0) (a .h) (c .put-row .ensures .0),
       c .put-row .ensures .1,
     )
 

@@ -7,17 +7,18 @@ use borrow.Author.Needs.{needs}
 use Rattle.rules.specs.Number.{labelOf}
 use Rattle.grid.specs.Grid.{Square}
 use Rattle.pairs.specs.Walks.{heldBy}
-use Rattle.pairs.specs.Gains.{Gains, LineGives, namesAt}
+use Rattle.pairs.specs.Gains.{Gains, LineGives, rootsAt}
 use Rattle.pairs.proofs.Gaining.{below-none, below-more, cell-skip, cell-next}
 use Rattle.pairs.proofs.calls.put_line.Statement.{statement}
 use Rattle.pairs.proofs.calls.put_line.Tie as tie
 
 abbrev Inv-loop : tie.InvT-loop
-Inv-loop g₀ s at k rows first h t a j₀ g j =
-    (j ≤ k + 1) × Gains g₀ (LineGives rows first (namesAt s at k) (labelOf t) (heldBy h) (heldBy a) j) g × Square g
+Inv-loop g₀ roots s at k rows first h t a j₀ g j =
+    (j ≤ k + 1) × Gains g₀ (LineGives rows first (rootsAt roots s at k) (labelOf t) (heldBy h) (heldBy a) j) g
+    × Square g
 
 abbrev μ-loop : tie.MeasureT-loop
-μ-loop g₀ s at k rows first h t a j₀ g j = k + 1 - j
+μ-loop g₀ roots s at k rows first h t a j₀ g j = k + 1 - j
 
 loop-holds : tie.Need-loop-holds Inv-loop μ-loop
 loop-holds c =

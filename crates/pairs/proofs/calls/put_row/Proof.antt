@@ -7,17 +7,17 @@ use borrow.Author.Needs.{needs}
 use Rattle.rules.specs.Number.{labelOf}
 use Rattle.grid.specs.Grid.{Square}
 use Rattle.pairs.specs.Walks.{heldBy}
-use Rattle.pairs.specs.Gains.{Gains, RowGives, namesAt}
+use Rattle.pairs.specs.Gains.{Gains, RowGives, rootsAt}
 use Rattle.pairs.proofs.Gaining.{below-none, below-more, line-ready, line-skip, line-next}
 use Rattle.pairs.proofs.calls.put_row.Statement.{statement}
 use Rattle.pairs.proofs.calls.put_row.Tie as tie
 
 abbrev Inv-loop : tie.InvT-loop
-Inv-loop g₀ s at k rows first h t i₀ g i =
-    (i ≤ k + 1) × Gains g₀ (RowGives rows first (namesAt s at k) (labelOf t) (heldBy h) (k + 1) i) g × Square g
+Inv-loop g₀ roots s at k rows first h t i₀ g i =
+    (i ≤ k + 1) × Gains g₀ (RowGives rows first (rootsAt roots s at k) (labelOf t) (heldBy h) (k + 1) i) g × Square g
 
 abbrev μ-loop : tie.MeasureT-loop
-μ-loop g₀ s at k rows first h t i₀ g i = k + 1 - i
+μ-loop g₀ roots s at k rows first h t i₀ g i = k + 1 - i
 
 loop-holds : tie.Need-loop-holds Inv-loop μ-loop
 loop-holds c =
@@ -37,7 +37,8 @@ put-line-requires c κs =
     let b = c .before .before .before .before .before .before .before in
     let a = b .args in
     let l = c .before .before .before .before .loop in (
-      line-ready (a .s .now) (a .at) (a .k) (a .rows .now) (a .first) (a .t) (l .i) (omega arith) (b .pre .0),
+      line-ready (a .roots .now) (a .s .now) (a .at) (a .k) (a .rows .now) (a .first) (a .t) (l .i) (omega arith)
+          (b .pre .0),
       l .inv .1 .small,
       l .inv .2,
     )

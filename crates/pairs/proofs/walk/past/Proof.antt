@@ -1,7 +1,8 @@
 -- `past` meets its contract: each arm is the offset past an item with that code.
+use mathlib.Core.Logic.{inl, inr}
 use mathlib.Core.Path.{refl, sym, _∙_}
 use borrow.Author.Needs.{needs}
-use Rattle.pairs.proofs.Steps.{past-byte, past-rest}
+use Rattle.pairs.proofs.Steps.{past-byte, past-two, past-rest}
 use Rattle.pairs.proofs.walk.past.Statement.{statement}
 use Rattle.pairs.proofs.walk.past.Tie as tie
 
@@ -42,7 +43,7 @@ add-result-4 c = search needs
 returns : tie.Need-returns
 returns c =
     let a = c .before .before .before .before .args in
-    sym (past-byte (a .ks .now) (a .s .now) (a .at) 2 (search needs))
+    sym (past-two (a .ks .now) (a .s .now) (a .at) (c .match .keys1))
 
 returns-2 : tie.Need-returns-2
 returns-2 c =
@@ -55,7 +56,7 @@ returns-3 c =
     let a = c .before .before .before .before .args in
     let m = c .match .rest in
     sym (past-byte (a .ks .now) (a .s .now) (a .at) _ refl
-    ∙ past-rest (a .ks .now) (a .s .now) (a .at) _ (m .0 .1) (m .1))
+    ∙ past-rest (a .ks .now) (a .s .now) (a .at) _ (λ e. m .0 .1 (inl e)) (λ e. m .0 .1 (inr e)) (m .1))
 
 pub past-spec : {M : Type 1} → statement M
 past-spec =

@@ -3,18 +3,71 @@ use mathlib.Core.Path.{_≡_, refl, sym, ap, _∙_}
 use mathlib.Core.List.{List}
 use Prim.Native.Nat.{ℕ}
 use native.Mathlib.Omega.{arith}
-use lib.ListN.{getD}
 use borrow.Author.Needs.{needs}
-use Rattle.table.specs.Constants.{LOCK, FORK, CHOICE}
-use Rattle.pairs.specs.Walks.{Walk, walkOf, byteOf, holderOf, nestOf, holderInside, Given}
+use Rattle.table.specs.Constants.{NEW, LOCK, FORK, CHOICE, MIRROR}
+use Rattle.pairs.specs.Walks.{Walk, walkOf, byteOf, holderOf, nestOf, holderInside, pastBy, topBy, Ready, Given}
 use Rattle.pairs.proofs.Steps.{by-byte, by-rest, past-byte, top-byte, ready-pass, ready-level}
+use Rattle.pairs.proofs.walk.past.Reads as past-reads
+use Rattle.pairs.proofs.walk.level.Reads as level-reads
+use Rattle.pairs.proofs.walk.with_name.Reads as with-name-reads
+use Rattle.pairs.proofs.walk.entered.Reads as entered-reads
+use Rattle.pairs.proofs.walk.with_local.Reads as with-local-reads
+use Rattle.table.proofs.scope.size.Reads as size-reads
 use Rattle.pairs.proofs.walk.step.Statement.{statement}
 use Rattle.pairs.proofs.walk.step.Tie as tie
+use Rattle.pairs.proofs.walk.step.Reads as reads
+use Rattle.pairs.proofs.walk.step.Lts as lts
 
 -- the holder inside, by the byte at the place
 inside-byte : (s : List ℕ) (w : Walk) (i t m b : ℕ) → Given s w i t m → byteOf s w ≡ b
-    → i ≡ holderInside s (w .at) b (holderOf w) (nestOf w)
-inside-byte s w i t m b g e = g .holder ∙ ap (λ (v : ℕ). holderInside s (w .at) v (holderOf w) (nestOf w)) e
+    → i ≡ holderInside (w .roots) s (w .at) b (holderOf w) (nestOf w)
+inside-byte s w i t m b g e = g .holder ∙ ap (λ (v : ℕ). holderInside (w .roots) s (w .at) v (holderOf w) (nestOf w)) e
+
+-- the place where the offset past the item and the level there are known
+abbrev AtLevel : Type 0
+AtLevel = lts.After-level (
+  past-reads.Asked,
+  past-reads.Learnt,
+  level-reads.Asked,
+  level-reads.Learnt,
+  with-name-reads.Asked,
+  with-name-reads.Learnt,
+  entered-reads.Asked,
+  entered-reads.Learnt,
+  with-local-reads.Asked,
+  with-local-reads.Learnt,
+  size-reads.Asked,
+  size-reads.Learnt,
+) reads.Pre reads.Post
+
+-- the sections there, and the walk before the item
+abbrev counts-at : AtLevel → List ℕ
+counts-at l = l .before .before .before .before .before .args .ks .now
+
+abbrev bytes-at : AtLevel → List ℕ
+bytes-at l = l .before .before .before .before .before .args .s .now
+
+abbrev walk-at : AtLevel → Walk
+walk-at l =
+    let a = l .before .before .before .before .before .args in
+    walkOf (a .p) (a .holders .now) (a .threads .now) (a .nests .now) (a .roots .now)
+
+-- what is required of them
+ready-at : (l : AtLevel) → Ready (counts-at l) (bytes-at l) (walk-at l)
+ready-at l = l .before .before .before .before .before .pre .0
+
+given-at : (l : AtLevel) → let a = l .before .before .before .before .before .args in
+    Given (bytes-at l) (walk-at l) (a .inside) (a .thread) (a .nest)
+given-at l = l .before .before .before .before .before .pre .1
+
+-- the offset and the level, by the byte at the place
+past-at : (l : AtLevel) (b : ℕ) → byteOf (bytes-at l) (walk-at l) ≡ b
+    → l .before .past .result ≡ pastBy (counts-at l) (bytes-at l) (walk-at l .at) b
+past-at l b e = l .before .past .ensures ∙ past-byte (counts-at l) (bytes-at l) (walk-at l .at) b e
+
+top-at : (l : AtLevel) (b : ℕ) → byteOf (bytes-at l) (walk-at l) ≡ b
+    → l .level .result ≡ topBy (walk-at l .top) b
+top-at l b e = l .level .ensures ∙ top-byte (walk-at l .top) (byteOf (bytes-at l) (walk-at l)) b e
 
 shared-slice-read-b : tie.Need-shared-slice-read-b
 shared-slice-read-b c = search needs
@@ -23,119 +76,142 @@ past-requires : tie.Need-past-requires
 past-requires c κs =
     let b = c .before .before .before in
     let a = b .args in
-    ready-pass (a .ks .now) (a .s .now) (walkOf (a .p) (a .holders .now) (a .threads .now) (a .nests .now)) (b .pre .0)
+    ready-pass (a .ks .now) (a .s .now)
+    (walkOf (a .p) (a .holders .now) (a .threads .now) (a .nests .now) (a .roots .now)) (b .pre .0)
 
 level-requires : tie.Need-level-requires
 level-requires c κs =
     let b = c .before .before .before .before in
     let a = b .args in
-    ready-level (a .ks .now) (a .s .now) (walkOf (a .p) (a .holders .now) (a .threads .now) (a .nests .now)) (b .pre .0)
+    ready-level (a .ks .now) (a .s .now)
+    (walkOf (a .p) (a .holders .now) (a .threads .now) (a .nests .now) (a .roots .now)) (b .pre .0)
 
 add-with-name : tie.Need-add-with-name
 add-with-name c = search needs
 
 shared-slice-read-with-name : tie.Need-shared-slice-read-with-name
 shared-slice-read-with-name c =
-    let b = c .before .before .before .before .before .before .before in
-    let k = b .pre .0 .kind LOCK (search needs) in
-    search needs
+    let k = ready-at (c .before .before) .room LOCK (c .before .match .keys1) in search needs
 
 with-name-requires : tie.Need-with-name-requires
-with-name-requires c κs =
-    let b = c .before .before .before .before .before .before .before in
-    let k = b .pre .0 .kind LOCK (search needs) in
-    k .1
+with-name-requires c κs = ready-at (c .before .before) .names LOCK (c .before .match .keys1)
 
 entered-requires : tie.Need-entered-requires
 entered-requires c κs =
-    let level-met = c .before .before .before .before .before .before in
-    let b = level-met .before .before .before .before .before in
-    let a = b .args in
-    let k = b .pre .0 .kind LOCK (search needs) in
-    let e = top-byte (a .p .top) (getD (a .s .now) (a .p .at) 0) 2 (search needs) in
-    let l = level-met .level .ensures ∙ e in
+    let lock-met = c .before .before .before .before .before in
+    let l = lock-met .before in
+    let e = lock-met .match .keys1 in
+    let k = ready-at l .room LOCK e in
+    let t = top-at l 2 e in
     omega arith
 
 add-entered : tie.Need-add-entered
-add-entered c =
-    let b = c .before .before .before .before .before .before in
-    let k = b .pre .0 .kind FORK (search needs) in
-    search needs
+add-entered c = let k = ready-at (c .before) .names FORK (c .match .keys2) in search needs
 
 add-entered-2 : tie.Need-add-entered-2
-add-entered-2 c =
-    let b = c .before .before .before .before .before .before in
-    let k = b .pre .0 .kind FORK (search needs) in
-    search needs
+add-entered-2 c = let k = ready-at (c .before) .names FORK (c .match .keys2) in search needs
 
 entered-requires-2 : tie.Need-entered-requires-2
 entered-requires-2 c κs =
-    let level-met = c .before .before .before .before in
-    let b = level-met .before .before .before .before .before in
-    let a = b .args in
-    let k = b .pre .0 .kind FORK (search needs) in
-    let e = top-byte (a .p .top) (getD (a .s .now) (a .p .at) 0) 3 (search needs) in
-    let l = level-met .level .ensures ∙ e in
+    let fork-met = c .before .before .before in
+    let e = fork-met .match .keys2 in
+    let k = ready-at (fork-met .before) .room FORK e in
+    let t = top-at (fork-met .before) 3 e in
     omega arith
 
 entered-requires-3 : tie.Need-entered-requires-3
 entered-requires-3 c κs =
-    let level-met = c .before .before .before .before in
-    let b = level-met .before .before .before .before .before in
-    let a = b .args in
-    let k = b .pre .0 .kind CHOICE (search needs) in
-    let e = top-byte (a .p .top) (getD (a .s .now) (a .p .at) 0) 4 (search needs) in
-    let l = level-met .level .ensures ∙ e in
+    let choice-met = c .before .before .before in
+    let e = choice-met .match .keys3 in
+    let k = ready-at (choice-met .before) .room CHOICE e in
+    let t = top-at (choice-met .before) 4 e in
     omega arith
+
+add-with-local : tie.Need-add-with-local
+add-with-local c = let k = ready-at (c .before .before) .names NEW (c .before .match .keys4) in search needs
+
+with-local-requires : tie.Need-with-local-requires
+with-local-requires c κs = ready-at (c .before .before .before) .names NEW (c .before .before .match .keys4)
+
+add-y : tie.Need-add-y
+add-y c = search needs
+
+shared-slice-read-y : tie.Need-shared-slice-read-y
+shared-slice-read-y c =
+    let k = ready-at (c .before .before) .room MIRROR (c .before .match .keys5) in search needs
+
+size-requires : tie.Need-size-requires
+size-requires c κs = search needs
+
+element-copy-out-root : tie.Need-element-copy-out-root
+element-copy-out-root c =
+    let k = ready-at (c .before .before .before) .names MIRROR (c .before .before .match .keys5) in search needs
+
+with-local-requires-2 : tie.Need-with-local-requires-2
+with-local-requires-2 c κs =
+    let mirror-met = c .before .before .before .before in
+    ready-at (mirror-met .before) .names MIRROR (mirror-met .match .keys5) .1
 
 returns : tie.Need-returns
 returns c =
-    let lock-met = c .before .before .before .before .before .before in
-    let level-met = lock-met .before in
-    let b = level-met .before .before .before .before .before in
-    let a = b .args in
-    let w = walkOf (a .p) (a .holders .now) (a .threads .now) (a .nests .now) in
-    let e : byteOf (a .s .now) w ≡ 2 = lock-met .match .keys1 in
-    let p = level-met .before .past .ensures ∙ past-byte (a .ks .now) (a .s .now) (w .at) 2 e in
-    let l = level-met .level .ensures ∙ top-byte (w .top) (byteOf (a .s .now) w) 2 e in
-    let i = inside-byte (a .s .now) w (a .inside) (a .thread) (a .nest) 2 (b .pre .1) e in
-    let m = c .before .before .before .before .with-name .ensures in
-    (rw (p, l, m, i, b .pre .1 .thread, b .pre .1 .nest) at (c .entered .ensures))
-    ∙ sym (by-byte (a .ks .now) (a .s .now) w 2 e)
+    let named-met = c .before .before .before .before in
+    let lock-met = named-met .before .before in
+    let l = lock-met .before in
+    let a = l .before .before .before .before .before .args in
+    let e = lock-met .match .keys1 in
+    let i = inside-byte (bytes-at l) (walk-at l) (a .inside) (a .thread) (a .nest) 2 (given-at l) e in
+    (rw (past-at l 2 e, top-at l 2 e, named-met .with-name .ensures, given-at l .thread, given-at l .nest, i)
+    at (c .entered .ensures (a .roots .now)))
+    ∙ sym (by-byte (counts-at l) (bytes-at l) (walk-at l) 2 e)
 
 returns-2 : tie.Need-returns-2
 returns-2 c =
-    let level-met = c .before .before .before .before .before in
-    let b = level-met .before .before .before .before .before in
-    let a = b .args in
-    let w = walkOf (a .p) (a .holders .now) (a .threads .now) (a .nests .now) in
-    let e : byteOf (a .s .now) w ≡ 3 = search needs in
-    let p = level-met .before .past .ensures ∙ past-byte (a .ks .now) (a .s .now) (w .at) 3 e in
-    let l = level-met .level .ensures ∙ top-byte (w .top) (byteOf (a .s .now) w) 3 e in
-    (rw (p, l) at (c .entered2 .ensures)) ∙ sym (by-byte (a .ks .now) (a .s .now) w 3 e)
+    let fork-met = c .before .before .before .before in
+    let l = fork-met .before in
+    let a = l .before .before .before .before .before .args in
+    let e = fork-met .match .keys2 in
+    (rw (past-at l 3 e, top-at l 3 e) at (c .entered2 .ensures (a .roots .now)))
+    ∙ sym (by-byte (counts-at l) (bytes-at l) (walk-at l) 3 e)
 
 returns-3 : tie.Need-returns-3
 returns-3 c =
-    let level-met = c .before .before .before .before .before in
-    let b = level-met .before .before .before .before .before in
-    let a = b .args in
-    let w = walkOf (a .p) (a .holders .now) (a .threads .now) (a .nests .now) in
-    let e : byteOf (a .s .now) w ≡ 4 = search needs in
-    let p = level-met .before .past .ensures ∙ past-byte (a .ks .now) (a .s .now) (w .at) 4 e in
-    let l = level-met .level .ensures ∙ top-byte (w .top) (byteOf (a .s .now) w) 4 e in
-    let i = inside-byte (a .s .now) w (a .inside) (a .thread) (a .nest) 4 (b .pre .1) e in
-    (rw (p, l, i, b .pre .1 .thread, b .pre .1 .nest) at (c .entered3 .ensures))
-    ∙ sym (by-byte (a .ks .now) (a .s .now) w 4 e)
+    let choice-met = c .before .before .before .before in
+    let l = choice-met .before in
+    let a = l .before .before .before .before .before .args in
+    let e = choice-met .match .keys3 in
+    let i = inside-byte (bytes-at l) (walk-at l) (a .inside) (a .thread) (a .nest) 4 (given-at l) e in
+    (rw (past-at l 4 e, top-at l 4 e, given-at l .thread, given-at l .nest, i)
+    at (c .entered3 .ensures (a .roots .now)))
+    ∙ sym (by-byte (counts-at l) (bytes-at l) (walk-at l) 4 e)
 
 returns-4 : tie.Need-returns-4
 returns-4 c =
-    let level-met = c .before in
-    let a = level-met .before .before .before .before .before .args in
-    let w = walkOf (a .p) (a .holders .now) (a .threads .now) (a .nests .now) in
+    let new-met = c .before .before .before in
+    let l = new-met .before in
+    let a = l .before .before .before .before .before .args in
+    let e = new-met .match .keys4 in
+    (rw (past-at l 1 e, top-at l 1 e) at (c .with-local .ensures (a .holders .now) (a .threads .now) (a .nests .now)))
+    ∙ sym (by-byte (counts-at l) (bytes-at l) (walk-at l) 1 e)
+
+returns-5 : tie.Need-returns-5
+returns-5 c =
+    let sized = c .before .before .before in
+    let mirror-met = sized .before .before in
+    let l = mirror-met .before in
+    let a = l .before .before .before .before .before .args in
+    let e = mirror-met .match .keys5 in
+    (rw (past-at l 7 e, top-at l 7 e, sized .size .ensures .0)
+    at (c .with-local2 .ensures (a .holders .now) (a .threads .now) (a .nests .now)))
+    ∙ sym (by-byte (counts-at l) (bytes-at l) (walk-at l) 7 e)
+
+returns-6 : tie.Need-returns-6
+returns-6 c =
+    let l = c .before in
     let m = c .match .rest in
-    rw (level-met .before .past .ensures, level-met .level .ensures)
-    (sym (by-byte (a .ks .now) (a .s .now) w _ refl
-    ∙ by-rest (a .ks .now) (a .s .now) w _ (m .0 .0 .1) (m .0 .1) (m .1)))
+    rw (l .before .past .ensures, l .level .ensures)
+    (sym (by-byte (counts-at l) (bytes-at l) (walk-at l) _ refl
+    ∙ by-rest (counts-at l) (bytes-at l) (walk-at l) _ (m .0 .0 .0 .0 .1) (m .0 .0 .0 .1) (m .0 .0 .1) (m .0 .1)
+    (m .1)))
 
 pub step-spec : {M : Type 1} → statement M
 step-spec =
@@ -152,7 +228,16 @@ step-spec =
     add-entered-2
     entered-requires-2
     entered-requires-3
+    add-with-local
+    with-local-requires
+    add-y
+    shared-slice-read-y
+    size-requires
+    element-copy-out-root
+    with-local-requires-2
     returns
     returns-2
     returns-3
-    returns-4)
+    returns-4
+    returns-5
+    returns-6)

@@ -1,5 +1,4 @@
 -- `open_item` meets its contract: each return is one case of reading an item.
-use mathlib.Core.Path.{_≡_, refl, sym, ap, _∙_}
 use native.Mathlib.Omega.{arith}
 use lib.ListN.{getD}
 use Rattle.table.specs.Constants.{LOCK, FORK, CHOICE}
@@ -7,7 +6,7 @@ use Rattle.table.proofs.OpeningLaws.{no-kind, scope-low, past-end, unkn
 use Rattle.table.proofs.OpeningLaws.{other-closes}
 use Rattle.table.proofs.OpeningLaws.{other-stray, new-full, new-made, deep, lock-absent, lock-unscoped}
 use Rattle.table.proofs.OpeningLaws.{lock-opens}
-use Rattle.table.proofs.OpeningLaws.{new-fits, fork-full, fork-opens, choice-opens, call-opens}
+use Rattle.table.proofs.OpeningLaws.{new-fits, fork-full, fork-opens, choice-opens, call-opens, mirror-opens}
 use borrow.Author.Needs.{needs}
 use Rattle.table.proofs.bodies.open_item.Statement.{statement}
 use Rattle.table.proofs.bodies.open_item.Tie as tie
@@ -125,6 +124,10 @@ open-call-requires c κs =
           (c .before .before .before .before .before .before .pre);
     }
 
+open-mirror-requires : tie.Need-open-mirror-requires
+open-mirror-requires c κs =
+    record { inside = omega arith; ready = c .before .before .before .before .before .before .pre }
+
 returns-8 : tie.Need-returns-8
 returns-8 c =
     let a = c .before .before .before .before .before .before .before .args in end-first (a .ks .now) (a .s .now)
@@ -187,10 +190,17 @@ returns-17 c =
 
 returns-18 : tie.Need-returns-18
 returns-18 c =
+    let a = c .before .before .before .before .before .before .before .args in rw (c .open-mirror .ensures)
+    (mirror-opens (a .ks .now) (a .s .now) (a .at) (a .depth) (a .first) (a .own) (a .scope) (a .n) (omega arith)
+    (omega arith))
+
+returns-19 : tie.Need-returns-19
+returns-19 c =
     let a = c .before .before .before .before .before .before .args in unknown (a .ks .now) (a .s .now) (a .at)
     (a .depth) (a .first) (a .own) (a .scope) (a .n) (omega arith) (no-kind (getD (a .s .now) (a .at) 0)
-    (c .match .rest .0 .0 .0 .0 .0 .0 .1) (c .match .rest .0 .0 .0 .0 .0 .1) (c .match .rest .0 .0 .0 .0 .1)
-    (c .match .rest .0 .0 .0 .1) (c .match .rest .0 .0 .1) (c .match .rest .0 .1) (c .match .rest .1))
+    (c .match .rest .0 .0 .0 .0 .0 .0 .0 .1) (c .match .rest .0 .0 .0 .0 .0 .0 .1) (c .match .rest .0 .0 .0 .0 .0 .1)
+    (c .match .rest .0 .0 .0 .0 .1) (c .match .rest .0 .0 .0 .1) (c .match .rest .0 .0 .1) (c .match .rest .0 .1)
+    (c .match .rest .1))
 
 pub open-item-spec : {M : Type 1} → statement M
 open-item-spec =
@@ -223,6 +233,7 @@ open-item-spec =
     add-t44
     add-t48
     open-call-requires
+    open-mirror-requires
     returns-8
     returns-9
     returns-10
@@ -233,4 +244,5 @@ open-item-spec =
     returns-15
     returns-16
     returns-17
-    returns-18)
+    returns-18
+    returns-19)
