@@ -22,8 +22,8 @@ extern "C" {
 /* Row r of the model is the VANGPEAR_ROW bytes from VANGPEAR_ROW * r on: 64 cells and a last byte. Cell 8 * a + b, for
  * a and b from 0 to 7, is the sum of the labels under which routine r has name a held while name b is wanted, and 0
  * where there is none. Name 0 is the lock that the thread took last before the call and still holds (a LOCK on a name
- * that its thread has locked around it in the same body does not count as taking: docs/FORMAT.md), the others are the
- * routine's parameters. The last byte is 1 where the pairs of the routine's body have a ring, and otherwise 0. These
+ * whose root its thread has locked around it in the same body does not count as taking: docs/FORMAT.md), the others are
+ * the routine's parameters. The last byte is 1 where the pairs of the routine's body have a ring, and otherwise 0. These
  * two give the index in the model buffer. */
 #define VANGPEAR_CELL(routine, a, b) (VANGPEAR_ROW * (routine) + 8u * (a) + (b))
 #define VANGPEAR_LAST(routine) (VANGPEAR_ROW * (routine) + 64u)
@@ -36,7 +36,8 @@ extern "C" {
 /* What vangpear_check gives for an accepted table is VANGPEAR_ROUTINE * routines + items. */
 #define VANGPEAR_ROUTINE 65536u
 
-/* What vangpear_analyse gives for a ring is VANGPEAR_RING + 1024 * routine + 32 * name: these take it apart. */
+/* What vangpear_analyse gives for a ring is VANGPEAR_RING + 1024 * routine + 32 * name: these take it apart. The name
+ * is that of a parameter or of a NEW, never that of a MIRROR. */
 #define VANGPEAR_RING 65536u
 #define VANGPEAR_RING_ROUTINE(answer) (((answer) - VANGPEAR_RING) / 1024u)
 #define VANGPEAR_RING_NAME(answer) (((answer) - VANGPEAR_RING) % 1024u / 32u)

@@ -1,4 +1,4 @@
-//! Hands the archive to the linker, for the binaries `compare` and `bench` alone.
+//! Hands the archive to the linker, for the binaries `compare`, `bench` and `small` alone.
 //!
 //! VANGPEAR_ARCHIVE_DIR is the archive's folder, VANGPEAR_ARCHIVE its name
 //! without `lib` and `.a`. Nothing is linked unless the feature `archive` is on.
@@ -21,7 +21,7 @@ fn main() {
             let archive = Path::new(&folder).join(format!("lib{name}.a"));
             let archive = archive.canonicalize().unwrap_or(archive);
             println!("cargo:rerun-if-changed={}", archive.display());
-            for binary in ["compare", "bench"] {
+            for binary in ["compare", "bench", "small"] {
                 println!("cargo:rustc-link-arg-bin={binary}={}", archive.display());
             }
         }

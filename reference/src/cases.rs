@@ -232,6 +232,7 @@ pub fn limits_without_mirrors() -> Vec<Limit> {
 pub fn rules() -> Vec<Case> {
     let mut all = rules_without_mirrors();
     all.extend(mirror_rules());
+    all.extend(held_mirror_rules());
     all
 }
 
@@ -468,8 +469,7 @@ fn nest_rules() -> Vec<Case> {
     .collect()
 }
 
-/// Tables that tell what a mirror stands for, where it is in scope and what of it counts
-/// as a name of its own.
+/// Tables that tell what a mirror stands for and where it is in scope.
 pub fn mirror_rules() -> Vec<Case> {
     // The names of the mirrors in a routine with two parameters are 3 and up.
     let fork_one_then_two = fork(&nest(&[1, 2], &[]));
@@ -644,7 +644,7 @@ pub fn mirror_rules() -> Vec<Case> {
                     &nest(&[1], &[&[MIRROR, 1], &two_then(3)[..]].concat()),
                 ],
             ),
-            ring(0, 1, [0, 0, 2]),
+            clear(2),
         ),
         (
             "locals count on over alternatives with a mirror each",
@@ -750,22 +750,22 @@ pub fn mirror_rules() -> Vec<Case> {
             ),
             clear(2),
         ),
-        // The nest, which goes by the names as written.
+        // The nest, which goes by the locks; `held_mirror_rules` has more.
         (
-            "a LOCK on a mirror of a name held records its pair",
+            "a LOCK on a mirror of a name held is passed over",
             alone(
                 2,
                 &[&[MIRROR, 1], &fork_one_then_two, &nest(&[1, 2, 3], &[])],
             ),
-            ring(0, 1, [0, 0, 2]),
+            clear(2),
         ),
         (
-            "a LOCK on a name whose mirror is held records its pair",
+            "a LOCK on a name whose mirror is held is passed over",
             alone(
                 2,
                 &[&[MIRROR, 1], &fork_one_then_two, &nest(&[3, 2, 1], &[])],
             ),
-            ring(0, 1, [0, 0, 2]),
+            clear(2),
         ),
         (
             "a LOCK on a mirror that is held is passed over",
@@ -791,6 +791,445 @@ pub fn mirror_rules() -> Vec<Case> {
                 ],
             ),
             ring(0, 2, [0, 0, 2]),
+        ),
+    ]
+    .into_iter()
+    .map(|(name, table, answer)| Case {
+        name,
+        table,
+        answer,
+    })
+    .collect()
+}
+
+/// Tables that tell when a LOCK is on a lock that its thread holds by another name.
+pub fn held_mirror_rules() -> Vec<Case> {
+    // Mirrors are the names 3 and up in a routine with two parameters, 4 and up with three.
+    let lock = |name: u8| nest(&[name], &[]);
+    let fork_one_then_two = fork(&nest(&[1, 2], &[]));
+    let fork_two_then_one = fork(&nest(&[2, 1], &[]));
+    let fork_three_then_two = fork(&nest(&[3, 2], &[]));
+    let locks_its_parameter = body(&[&lock(1)]);
+    // Two locals and a mirror of the first, which is taken inside the second.
+    let locals = [
+        &[NEW, NEW, MIRROR, 1],
+        &fork_one_then_two[..],
+        &nest(&[1, 2, 3], &[]),
+    ]
+    .concat();
+    // With a LOCK around them and two LOCK items inside, sixteen blocks are open.
+    let thirteen_choices = (0..13).fold(nest(&[2, 3], &[]), |inside, _| choice(&inside, &[]));
+
+    [
+        // Which names are of one lock.
+        (
+            "a mirror of a name held, and no other thread",
+            alone(2, &[&[MIRROR, 1], &nest(&[1, 2, 3], &[])]),
+            clear(2),
+        ),
+        (
+            "a mirror of a NEW that is held",
+            plain(&[&locals]),
+            clear(1),
+        ),
+        (
+            "one mirror held and another one of its lock",
+            alone(
+                2,
+                &[
+                    &[MIRROR, 1, MIRROR, 1],
+                    &fork_one_then_two,
+                    &nest(&[3, 2, 4], &[]),
+                ],
+            ),
+            clear(2),
+        ),
+        (
+            "a mirror of a mirror of a name held",
+            alone(
+                2,
+                &[
+                    &[MIRROR, 1, MIRROR, 3],
+                    &fork_one_then_two,
+                    &nest(&[1, 2, 4], &[]),
+                ],
+            ),
+            clear(2),
+        ),
+        (
+            "a mirror whose mirror's mirror is held",
+            alone(
+                2,
+                &[
+                    &[MIRROR, 1, MIRROR, 3, MIRROR, 4],
+                    &fork_one_then_two,
+                    &nest(&[5, 2, 3], &[]),
+                ],
+            ),
+            clear(2),
+        ),
+        (
+            "a mirror of a name that is not held",
+            alone(3, &[&[MIRROR, 3], &nest(&[1, 2, 4], &[])]),
+            clear(2),
+        ),
+        (
+            "a mirror is not the name eight below it",
+            alone(
+                3,
+                &[
+                    &[NEW; 5],
+                    &[MIRROR, 2],
+                    &fork(&nest(&[2, 3], &[])),
+                    &nest(&[1, 3, 9], &[]),
+                ],
+            ),
+            ring(0, 2, [0, 0, 2]),
+        ),
+        (
+            "the lowest and the highest of eight mirrors",
+            alone(
+                MAX_PARAMETERS,
+                &[
+                    &[MIRROR, 7].repeat(MAX_LOCALS as usize),
+                    &fork(&nest(&[7, 1], &[])),
+                    &nest(&[8, 1, 15], &[]),
+                ],
+            ),
+            clear(2),
+        ),
+        (
+            "three names taken again by their mirrors, one in another",
+            alone(
+                3,
+                &[
+                    &[MIRROR, 1, MIRROR, 2, MIRROR, 3],
+                    &nest(&[1, 5, 3, 4, 2, 6], &[]),
+                ],
+            ),
+            clear(2),
+        ),
+        // The h.
+        (
+            "a LOCK inside a mirror passed over has the outer h",
+            alone(3, &[&[MIRROR, 1], &nest(&[1, 2, 4, 3], &[])]),
+            clear(2),
+        ),
+        (
+            "a CALL inside a mirror passed over puts the outer h for name 0",
+            called(
+                &[3, 1],
+                &[
+                    &body(&[
+                        &[MIRROR, 1],
+                        &fork_three_then_two,
+                        &nest(&[1, 2, 4], &[CALL, 2, 3]),
+                    ]),
+                    &locks_its_parameter,
+                ],
+            ),
+            ring(0, 2, [33, 1, 3]),
+        ),
+        (
+            "behind a mirror passed over the h is as before it",
+            alone(
+                3,
+                &[
+                    &[MIRROR, 1],
+                    &fork_three_then_two,
+                    &nest(&[1, 2], &[lock(4), lock(3)].concat()),
+                ],
+            ),
+            ring(0, 2, [0, 0, 2]),
+        ),
+        (
+            "the end of a mirror passed over ends no hold",
+            alone(
+                2,
+                &[
+                    &[MIRROR, 1],
+                    &fork_one_then_two,
+                    &nest(&[1], &[lock(3), nest(&[2, 3], &[])].concat()),
+                ],
+            ),
+            clear(2),
+        ),
+        // Threads.
+        (
+            "a fork passes over a mirror of what it holds itself",
+            alone(
+                2,
+                &[
+                    &[MIRROR, 1],
+                    &fork(&nest(&[1, 2, 3], &[])),
+                    &nest(&[1, 2], &[]),
+                ],
+            ),
+            clear(2),
+        ),
+        (
+            "a fork alone passes over a mirror of what it holds",
+            alone(2, &[&[MIRROR, 1], &fork(&nest(&[1, 2, 3], &[]))]),
+            clear(2),
+        ),
+        (
+            "a fork does not hold its parent's lock by a mirror",
+            alone(
+                2,
+                &[
+                    &[MIRROR, 1],
+                    &nest(&[1], &[lock(2), fork(&nest(&[2, 3], &[]))].concat()),
+                ],
+            ),
+            ring(0, 1, [0, 0, 2]),
+        ),
+        (
+            "a fork does not hold the lock of its parent's mirror",
+            alone(
+                2,
+                &[
+                    &[MIRROR, 1],
+                    &nest(&[3], &[lock(2), fork(&nest(&[2, 1], &[]))].concat()),
+                ],
+            ),
+            ring(0, 1, [0, 0, 2]),
+        ),
+        (
+            "a fork inside a mirror passed over holds nothing",
+            alone(
+                2,
+                &[&[MIRROR, 1], &nest(&[1, 2, 3], &fork(&nest(&[2, 1], &[])))],
+            ),
+            ring(0, 1, [0, 0, 2]),
+        ),
+        (
+            "a fork in a block of the lock that it takes between",
+            alone(
+                2,
+                &[
+                    &[MIRROR, 1],
+                    &nest(&[2], &fork(&nest(&[1, 2, 3], &[]))),
+                    &nest(&[1, 2], &[]),
+                ],
+            ),
+            clear(2),
+        ),
+        (
+            "behind a fork the mirror is still one of a name held",
+            alone(
+                2,
+                &[
+                    &[MIRROR, 1],
+                    &fork_one_then_two,
+                    &nest(&[1], &[fork(&lock(2)), nest(&[2, 3], &[])].concat()),
+                ],
+            ),
+            clear(2),
+        ),
+        // Calls.
+        (
+            "a callee's mirror of what its caller holds",
+            called(
+                &[2, 1],
+                &[
+                    &body(&[&fork_one_then_two, &nest(&[1, 2], &[CALL, 2, 1])]),
+                    &body(&[&[MIRROR, 1], &lock(2)]),
+                ],
+            ),
+            ring(0, 1, [33, 1, 3]),
+        ),
+        (
+            "a CALL passes a mirror of what is held",
+            called(
+                &[2, 1],
+                &[
+                    &body(&[
+                        &[MIRROR, 1],
+                        &fork_one_then_two,
+                        &nest(&[1, 2], &[CALL, 2, 3]),
+                    ]),
+                    &locks_its_parameter,
+                ],
+            ),
+            ring(0, 1, [33, 1, 3]),
+        ),
+        (
+            "a CALL inside a mirror passed over takes its lock",
+            called(
+                &[2, 1],
+                &[
+                    &body(&[
+                        &[MIRROR, 1],
+                        &fork_one_then_two,
+                        &nest(&[1, 2, 3], &[CALL, 2, 3]),
+                    ]),
+                    &locks_its_parameter,
+                ],
+            ),
+            ring(0, 1, [33, 1, 3]),
+        ),
+        (
+            "two parameters are no mirrors, also for a lock and its mirror",
+            called(
+                &[2, 3],
+                &[
+                    &body(&[&[MIRROR, 1], &fork_one_then_two, &[CALL, 2, 1, 2, 3]]),
+                    &body(&[&nest(&[1, 2, 3], &[])]),
+                ],
+            ),
+            ring(0, 1, [33, 1, 3]),
+        ),
+        (
+            "a row loses a pair, and a caller its ring",
+            called(
+                &[2, 2],
+                &[
+                    &body(&[&fork_one_then_two, &[CALL, 2, 1, 2]]),
+                    &body(&[&[MIRROR, 1], &nest(&[1, 2, 3], &[])]),
+                ],
+            ),
+            clear(3),
+        ),
+        // Blocks and scope.
+        (
+            "a mirror behind the block of its lock",
+            alone(
+                2,
+                &[
+                    &[MIRROR, 1],
+                    &fork_one_then_two,
+                    &lock(1),
+                    &nest(&[2, 3], &[]),
+                ],
+            ),
+            ring(0, 1, [0, 0, 2]),
+        ),
+        (
+            "a mirror made in the block between",
+            alone(
+                2,
+                &[
+                    &fork_one_then_two,
+                    &nest(&[1, 2], &[&[MIRROR, 1], &lock(3)[..]].concat()),
+                ],
+            ),
+            clear(2),
+        ),
+        (
+            "both alternatives pass over a mirror of what is held around them",
+            alone(
+                3,
+                &[
+                    &[MIRROR, 1],
+                    &fork_one_then_two,
+                    &nest(&[1], &choice(&nest(&[2, 4], &[]), &nest(&[3, 4, 2], &[]))),
+                ],
+            ),
+            clear(2),
+        ),
+        (
+            "what one alternative holds by a mirror the other does not",
+            alone(
+                2,
+                &[
+                    &[MIRROR, 1],
+                    &fork_one_then_two,
+                    &choice(&nest(&[3, 2], &[]), &nest(&[2, 1], &[])),
+                ],
+            ),
+            ring(0, 1, [0, 0, 2]),
+        ),
+        (
+            "each alternative has a mirror of its own of what is held",
+            alone(
+                2,
+                &[
+                    &fork_one_then_two,
+                    &nest(
+                        &[1],
+                        &choice(
+                            &[&[MIRROR, 1], &nest(&[2, 3], &[])[..]].concat(),
+                            &[&[MIRROR, 1], &nest(&[2, 4], &[])[..]].concat(),
+                        ),
+                    ),
+                ],
+            ),
+            clear(2),
+        ),
+        (
+            "the mirror of one alternative is held, that of the other not",
+            alone(
+                3,
+                &[&nest(
+                    &[1],
+                    &choice(
+                        &[&[MIRROR, 1], &nest(&[2, 4], &[])[..]].concat(),
+                        &[&[MIRROR, 3], &nest(&[2, 5], &[])[..]].concat(),
+                    ),
+                )],
+            ),
+            clear(2),
+        ),
+        (
+            "a mirror of the outermost block's name in the sixteenth",
+            alone(
+                2,
+                &[
+                    &[MIRROR, 1],
+                    &fork_one_then_two,
+                    &nest(&[1], &thirteen_choices),
+                ],
+            ),
+            clear(2),
+        ),
+        // What becomes of rings and shares.
+        (
+            "a pair loses the label own, and the ring stays",
+            alone(
+                2,
+                &[&[MIRROR, 1], &fork_two_then_one, &nest(&[1, 2, 3], &[])],
+            ),
+            ring(0, 1, [0, 0, 2]),
+        ),
+        (
+            "a ring is left in another routine",
+            called(
+                &[2, 0],
+                &[
+                    &body(&[
+                        &[MIRROR, 1],
+                        &fork_one_then_two,
+                        &nest(&[1, 2, 3], &[CALL, 2]),
+                    ]),
+                    &body(&[&RING]),
+                ],
+            ),
+            ring(2, 1, [66, 2, 3]),
+        ),
+        (
+            "a ring is left at locals",
+            called(
+                &[2],
+                &[&[
+                    &[MIRROR, 1],
+                    &fork_one_then_two[..],
+                    &nest(&[1, 2, 3], &[]),
+                    &[NEW, NEW],
+                    &opposite(4, 5),
+                ]
+                .concat()],
+            ),
+            ring(1, 4, [50, 0, 2]),
+        ),
+        (
+            "a share grows, and the ring stays",
+            plain(&[&[CALL, 1, CALL, 2], &RING, &locals]),
+            ring(1, 1, [66, 2, 3]),
+        ),
+        (
+            "a ring goes from a routine that no call reaches",
+            plain(&[&[], &locals]),
+            clear(1),
         ),
     ]
     .into_iter()

@@ -34,7 +34,8 @@ const WORDS: usize = NAMES / LANES;
 /// The lowest bit of each row of a word.
 const LOWEST: u64 = 0x0001_0001_0001_0001;
 
-/// For each name the one that its pairs are recorded under, four bits a name, the lowest for name 0.
+/// For each name the one that its pairs are recorded under and that nests go by, four bits a name, the
+/// lowest for name 0.
 #[derive(Clone, Copy)]
 struct Roots(u64);
 
@@ -189,7 +190,7 @@ struct Program<const R: usize, const C: usize> {
 struct Place {
     /// The names in scope, as bits.
     scope: u16,
-    /// The names in the LOCK blocks of the thread around this place, as written and as bits.
+    /// The roots of the names in the LOCK blocks of the thread around this place, as bits.
     nest: u16,
     /// The root of the name held.
     holder: u8,
@@ -347,14 +348,13 @@ fn read_body<const R: usize, const C: usize>(
             code::LOCK => {
                 let (held, thread) = (reader.here.holder, reader.here.thread);
                 reader.open(&mut outside)?;
-                let name = reader.name(section)?;
-                // A name in the nest is passed over: inside the block all is as outside it.
-                if reader.here.nest >> name & 1 == 0 {
-                    let root = roots.of(name);
+                let root = roots.of(reader.name(section)?);
+                // A lock in the nest is passed over: inside the block all is as outside it.
+                if reader.here.nest >> root & 1 == 0 {
                     if held != NOTHING {
                         body.record(thread as usize, held as usize, 1 << root);
                     }
-                    reader.here.nest |= 1 << name;
+                    reader.here.nest |= 1 << root;
                     reader.here.holder = root;
                 }
             }

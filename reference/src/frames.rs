@@ -3,10 +3,10 @@
 //! A frame is the model buffer's length and the table's length, two bytes each,
 //! low byte first, and the table's bytes.
 
-use crate::cases::{limits_without_mirrors, mirror_limits, Limit};
-use crate::cases::{mirror_rules, rules_without_mirrors, worked, Case};
+use crate::cases::{held_mirror_rules, mirror_rules, rules_without_mirrors};
+use crate::cases::{limits_without_mirrors, mirror_limits, worked, Case, Limit};
 use crate::generate::{self, of_kind, Boundary, Kind, Rng};
-use crate::generate::{boundaries_without_mirrors, mirror_boundaries};
+use crate::generate::{boundaries_without_mirrors, held_mirror_boundaries, mirror_boundaries};
 use crate::limits::{MAX_ROUTINES, ROW_BYTES};
 use crate::listing_with;
 
@@ -40,8 +40,11 @@ const RANDOM_MIRRORS: [(Kind, usize); 3] = [
     (Kind::BadMirrors, 90),
 ];
 
+/// How many random tables there are with LOCK items on mirrors of what is held.
+const RANDOM_HELD_MIRRORS: [(Kind, usize); 1] = [(Kind::HeldMirrors, 60)];
+
 /// Frames take at most so many bytes. The program reads 262,144.
-const ROOM: usize = 240_000;
+const ROOM: usize = 250_000;
 
 /// Bytes of a frame before the table: two lengths of two bytes.
 const LENGTHS: usize = 4;
@@ -49,7 +52,8 @@ const LENGTHS: usize = 4;
 /// A boundary table that is longer than this is left to `compare`.
 const MODERATE: usize = 600;
 
-/// The frames, always the same ones: first those without mirrors, then those with.
+/// The frames, always the same ones: first those without mirrors, then those with, then
+/// those about mirrors of what is held.
 pub fn all() -> Vec<Frame> {
     let mut rng = Rng::new(SEED);
     let cases = worked().into_iter().chain(rules_without_mirrors());
@@ -61,6 +65,8 @@ pub fn all() -> Vec<Frame> {
     frames.extend(random_of(&mut rng, &RANDOM));
     frames.extend(fixed(mirror_limits(), mirror_rules(), mirror_boundaries()));
     frames.extend(random_of(&mut rng, &RANDOM_MIRRORS));
+    frames.extend(fixed(vec![], held_mirror_rules(), held_mirror_boundaries()));
+    frames.extend(random_of(&mut rng, &RANDOM_HELD_MIRRORS));
     frames
 }
 
@@ -226,6 +232,23 @@ mod tests {
             changed += usize::from(now != before);
         }
         assert!(changed >= 80, "{changed}");
+    }
+
+    #[test]
+    fn frames_meet_what_request_105_changes() {
+        let (mut changed, mut clear_now) = (0, 0);
+        for frame in all() {
+            let [now, before] = [Rules::InForce, Rules::Before105].map(|rules| {
+                let mut buffer = vec![0; frame.buffer];
+                (analyse_by(rules, &frame.table, &mut buffer), buffer)
+            });
+            changed += usize::from(now != before);
+            let is_clear = |answer| matches!(answer, Answer::Accepted { verdict, .. } if verdict == Verdict::Clear);
+            assert!(is_clear(now.0) || !is_clear(before.0));
+            clear_now += usize::from(is_clear(now.0) && !is_clear(before.0));
+        }
+        assert!(changed >= 80, "{changed}");
+        assert!(clear_now >= 40, "{clear_now}");
     }
 
     #[test]

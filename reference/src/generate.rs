@@ -89,9 +89,12 @@ pub enum Kind {
     LargeMirrors,
     /// As `Mirrors`, but damaged, or with names out of scope and too many locals.
     BadMirrors,
+    /// LOCK items on other names of the locks that their thread holds, with LOCK and CALL
+    /// items inside and forks beside.
+    HeldMirrors,
 }
 
-pub const KINDS: [(Kind, &str); 12] = [
+pub const KINDS: [(Kind, &str); 13] = [
     (Kind::Small, "small"),
     (Kind::Deep, "deep"),
     (Kind::Wide, "wide"),
@@ -104,6 +107,7 @@ pub const KINDS: [(Kind, &str); 12] = [
     (Kind::Mirrors, "mirrors"),
     (Kind::LargeMirrors, "large with mirrors"),
     (Kind::BadMirrors, "bad with mirrors"),
+    (Kind::HeldMirrors, "held by mirrors"),
 ];
 
 /// Table number `index` of a seed, with its kind.
@@ -119,7 +123,8 @@ pub fn random(seed: u64, index: u64) -> (Kind, Vec<u8>) {
         35..=43 => Kind::Damaged,
         44..=48 => Kind::Arbitrary,
         49 => Kind::Full,
-        50..=85 => Kind::Mirrors,
+        50..=73 => Kind::Mirrors,
+        74..=85 => Kind::HeldMirrors,
         86..=90 => Kind::LargeMirrors,
         _ => Kind::BadMirrors,
     };
@@ -142,6 +147,7 @@ pub fn of_kind(rng: &mut Rng, kind: Kind) -> Vec<u8> {
         Kind::Mirrors => mirrors(rng),
         Kind::LargeMirrors => large_mirrors(rng),
         Kind::BadMirrors => bad_mirrors(rng),
+        Kind::HeldMirrors => held_mirrors(rng),
     }
 }
 
@@ -846,6 +852,145 @@ fn bad_mirrors(rng: &mut Rng) -> Vec<u8> {
     }
 }
 
+fn held_mirrors(rng: &mut Rng) -> Vec<u8> {
+    let routines = rng.between(1, 4);
+    let most = rng.between(1, 4);
+    let counts = counts(rng, routines, most);
+    let mut section = Vec::new();
+    for &parameters in &counts {
+        section.extend(held_body(rng, &counts, parameters));
+    }
+    assemble(&counts, &section)
+}
+
+/// A body of a few nests, each by the routine's thread or by a fork.
+fn held_body(rng: &mut Rng, counts: &[u8], parameters: u8) -> Vec<u8> {
+    let mut writer = HeldWriter {
+        rng,
+        counts,
+        locks: (1..=parameters).map(|name| vec![name]).collect(),
+        last: parameters,
+        most: parameters + MAX_LOCALS,
+    };
+    let mut body = writer.head();
+    for _ in 0..writer.rng.between(2, 4) {
+        let nest = writer.nest();
+        if writer.rng.chance(50) {
+            body.extend(joined(&[&[code::FORK], &nest, &[code::END]]));
+        } else {
+            body.extend(nest);
+        }
+    }
+    body.push(code::END);
+    body
+}
+
+/// Writes nests in which a lock is taken again, by any of its names.
+struct HeldWriter<'a> {
+    rng: &'a mut Rng,
+    counts: &'a [u8],
+    /// The names of each lock.
+    locks: Vec<Vec<u8>>,
+    /// The last name, and the highest that there may be.
+    last: u8,
+    most: u8,
+}
+
+impl HeldWriter<'_> {
+    /// Items that make locals, so that there are three locks or more, and mirrors.
+    fn head(&mut self) -> Vec<u8> {
+        let news = self.rng.between(3usize.saturating_sub(self.locks.len()), 4);
+        for _ in 0..news {
+            self.last += 1;
+            self.locks.push(vec![self.last]);
+        }
+        let mut items = vec![code::NEW; news];
+        for _ in 0..self.rng.between(1, 3) {
+            let lock = self.rng.below(self.locks.len());
+            items.extend(self.mirror(lock));
+        }
+        items
+    }
+
+    /// A MIRROR of a lock, by any of its names.
+    fn mirror(&mut self, lock: usize) -> [u8; 2] {
+        let item = [code::MIRROR, self.name(lock)];
+        self.last += 1;
+        self.locks[lock].push(self.last);
+        item
+    }
+
+    /// Any name of a lock.
+    fn name(&mut self, lock: usize) -> u8 {
+        let names = &self.locks[lock];
+        names[self.rng.below(names.len())]
+    }
+
+    /// Any name.
+    fn any_name(&mut self) -> u8 {
+        let lock = self.rng.below(self.locks.len());
+        self.name(lock)
+    }
+
+    /// A nest of two or three locks, most often in rising order, one of which is taken
+    /// again with another between.
+    fn nest(&mut self) -> Vec<u8> {
+        let mut way: Vec<usize> = (0..self.locks.len()).collect();
+        let length = self.rng.between(2, 3);
+        while way.len() > length {
+            way.remove(self.rng.below(way.len()));
+        }
+        if self.rng.chance(10) {
+            way.reverse();
+        }
+        let first = self.rng.below(length - 1);
+        way.insert(self.rng.between(first + 2, length), way[first]);
+        self.taken(&way)
+    }
+
+    /// LOCK items on these locks, one inside the other, each by any of its names. Now and
+    /// then the name is a mirror that is made there, or the rest stands in an alternative.
+    fn taken(&mut self, way: &[usize]) -> Vec<u8> {
+        let Some((&lock, rest)) = way.split_first() else {
+            return self.inside();
+        };
+        let names = self.locks.clone();
+        let mut items = Vec::new();
+        let name = if self.last < self.most && self.rng.chance(15) {
+            items.extend(self.mirror(lock));
+            self.last
+        } else {
+            self.name(lock)
+        };
+        let rest = self.taken(rest);
+        // What was made here may be out of scope behind it.
+        self.locks = names;
+        let rest = match self.rng.below(20) {
+            0 => joined(&[&[code::CHOICE], &rest, &[code::OTHER, code::END]]),
+            1 => joined(&[&[code::CHOICE, code::OTHER], &rest, &[code::END]]),
+            _ => rest,
+        };
+        joined(&[&items, &[code::LOCK, name], &rest, &[code::END]])
+    }
+
+    /// What stands in the innermost block of a nest: a CALL, a fork of two locks, or nothing.
+    fn inside(&mut self) -> Vec<u8> {
+        match self.rng.below(6) {
+            0 => {
+                let callee = self.rng.below(self.counts.len());
+                let mut call = vec![code::CALL, callee as u8];
+                call.extend((0..self.counts[callee]).map(|_| self.any_name()));
+                call
+            }
+            1 => {
+                let two_locks = two_locks(self.any_name(), self.any_name());
+                joined(&[&[code::FORK], &two_locks, &[code::END]])
+            }
+            _ => vec![],
+        }
+    }
+}
+
 fn damaged(rng: &mut Rng) -> Vec<u8> {
     let kind = [
         Kind::Small,
@@ -968,7 +1113,50 @@ fn two(k: u8, section: &[u8]) -> Vec<u8> {
 pub fn boundaries() -> Vec<Boundary> {
     let mut all = boundaries_without_mirrors();
     all.extend(mirror_boundaries());
+    all.extend(held_mirror_boundaries());
     all
+}
+
+/// Those about a LOCK on a mirror of what is held: it opens a block and needs its name in
+/// scope like any other.
+pub fn held_mirror_boundaries() -> Vec<Boundary> {
+    use code::*;
+
+    let by_turns = |depth: usize| {
+        let locks = repeated(&[LOCK, 1, LOCK, 2], 8);
+        let open = joined(&[&locks, &[LOCK, 1]]);
+        let items = joined(&[&[MIRROR, 1], &open[..2 * depth]]);
+        two(1, &joined(&[&items, &repeated(&[END], depth + 1)]))
+    };
+    [
+        (
+            "16 blocks of a name and its mirror by turns",
+            by_turns(16),
+            None,
+        ),
+        (
+            "17 blocks of a name and its mirror by turns",
+            by_turns(17),
+            Some(refusal::TOO_DEEP),
+        ),
+        (
+            "LOCK on a mirror out of scope in the block of its lock",
+            two(
+                1,
+                &[
+                    LOCK, 1, CHOICE, MIRROR, 1, OTHER, LOCK, 2, END, END, END, END,
+                ],
+            ),
+            Some(refusal::BAD_NAME),
+        ),
+    ]
+    .into_iter()
+    .map(|(what, table, refusal)| Boundary {
+        what,
+        table,
+        refusal,
+    })
+    .collect()
 }
 
 /// Those about MIRROR.
@@ -1815,6 +2003,7 @@ mod tests {
                 Kind::Mixed,
                 Kind::Mirrors,
                 Kind::LargeMirrors,
+                Kind::HeldMirrors,
             ] {
                 let table = of_kind(&mut rng, kind);
                 assert!(check(&table).is_ok(), "{kind:?} {table:?}");
@@ -1880,6 +2069,8 @@ mod tests {
         fn of(table: &Table) -> Nesting {
             let mut found = Nesting::default();
             for routine in &table.routines {
+                // A nest goes by the locks.
+                let routine = routine.renamed(&routine.roots());
                 routine.walk(|item, open| {
                     if let Item::Lock { name } = item {
                         found.see(*name, open);
@@ -1960,6 +2151,16 @@ mod tests {
                     };
                     let around = open.iter().any(other_name);
                     uses.extend(around.then_some("locked in its lock"));
+                    let fork = open.iter().rposition(|block| matches!(block, Block::Fork(_)));
+                    let (parents, own) = open.split_at(fork.map_or(0, |at| at + 1));
+                    let in_parent = parents.iter().any(other_name) && !own.iter().any(other_name);
+                    uses.extend(in_parent.then_some("locked in its parent's lock"));
+                    let other_lock = |block: &Block| {
+                        matches!(block, Block::Lock(held) if root(held) != root(name))
+                    };
+                    let since = own.iter().position(other_name).map(|at| &own[at..]);
+                    let between = since.is_some_and(|since| since.iter().any(other_lock));
+                    uses.extend(between.then_some("locked with another between"));
                 }
                 Item::Call { names, .. } => {
                     uses.extend(names.iter().any(is_mirror).then_some("passed"));
@@ -1993,6 +2194,8 @@ mod tests {
             ("in a block", 20),
             ("locked", 25),
             ("locked in its lock", 15),
+            ("locked in its parent's lock", 3),
+            ("locked with another between", 12),
             ("passed", 10),
             ("passed with its lock", 5),
             ("an eighth local", 5),

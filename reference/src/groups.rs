@@ -60,6 +60,11 @@ pub fn groups() -> Vec<Group> {
             valid(Kind::Mirrors, RANDOM),
         ),
         group(
+            "ordinary: held by mirrors",
+            "random, many LOCKs on other names of what their thread holds",
+            valid(Kind::HeldMirrors, RANDOM),
+        ),
+        group(
             "full: LOCKs",
             "64 routines of seven names, LOCK and END items alone",
             vec![full_of_locks()],

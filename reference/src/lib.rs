@@ -1,12 +1,13 @@
 //! A second analyser of handler tables, written from document 01 and requests #101,
-//! #102 and #104 of document 02, the customer's papers, apart from what is under test;
-//! docs/FORMAT.md is our page on the same format.
+//! #102, #104 and #105 of document 02, the customer's papers, apart from what is under
+//! test; docs/FORMAT.md is our page on the same format.
 //!
 //! It is kept plain, to be compared against, not to be fast:
 //! `table` reads and refuses, `model` works out pairs, rows, the verdict and the
 //! share, `listing` is the program's text. `cases` and `generate` give tables to try,
-//! `frames` puts many of them into one input. `fast` and `groups` are there for
-//! the benchmark alone, and `archive` calls what is under test.
+//! `frames` puts many of them into one input. `small` has all small tables of some
+//! families, and what request #105 moves in them. `fast` and `groups` are there for the
+//! benchmark alone, and `archive` calls what is under test.
 
 #[cfg(feature = "archive")]
 pub mod archive;
@@ -19,10 +20,11 @@ pub mod hex;
 pub mod limits;
 mod listing;
 pub mod model;
+pub mod small;
 pub mod table;
 
 use limits::{refusal, CHECK_ROUTINE, RING_BASE, RING_NAME, RING_ROUTINE, ROW_BYTES};
-pub use listing::{listing, listing_with};
+pub use listing::{listing, listing_by, listing_with};
 pub use model::Rules;
 
 /// What the analysis says of a table.

@@ -1,7 +1,7 @@
 //! The program's text.
 
 use crate::limits::{MAX_ROUTINES, ROW_BYTES, ROW_SIDE};
-use crate::{analyse, check, Answer, Share, Verdict};
+use crate::{analyse_by, check, Answer, Rules, Share, Verdict};
 
 /// The lines printed for a table, each ended by 0A.
 pub fn listing(table: &[u8]) -> Vec<u8> {
@@ -10,8 +10,13 @@ pub fn listing(table: &[u8]) -> Vec<u8> {
 
 /// The same where the model buffer has `size` bytes.
 pub fn listing_with(table: &[u8], size: usize) -> Vec<u8> {
+    listing_by(Rules::InForce, table, size)
+}
+
+/// The same by the rules given.
+pub fn listing_by(rules: Rules, table: &[u8], size: usize) -> Vec<u8> {
     let mut model = vec![0; size];
-    let (verdict, share) = match analyse(table, &mut model) {
+    let (verdict, share) = match analyse_by(rules, table, &mut model) {
         // A refused table prints this line alone.
         Answer::Refused(number) => return format!("refused {number}\n").into_bytes(),
         Answer::Accepted { verdict, share } => (verdict, share),

@@ -64,10 +64,12 @@ fn add(pairs: &mut Pairs, pair: Pair) -> bool {
 /// Which rules for pairs are applied. The share is taken of what they give.
 #[derive(Clone, Copy, Debug, PartialEq, Eq)]
 pub enum Rules {
-    /// Those in force: document 01 with requests #101 and #104.
+    /// Those in force: document 01 with requests #101, #104 and #105.
     InForce,
-    /// Those without request #101, to tell what it changes.
+    /// Those without nests, so without requests #101 and #105, to tell what nests change.
     Before101,
+    /// Those with nests by the names as written, to tell what request #105 changes.
+    Before105,
     /// Those in force with each mirror a lock of its own, to tell what mirrors change.
     MirrorsApart,
 }
@@ -87,8 +89,9 @@ fn thread(open: &[Block]) -> (Label, &[Block]) {
 /// its thread, is a LOCK block of that name.
 fn passed_over(rules: Rules, around: &[Block], name: u8) -> bool {
     match rules {
-        // By the names as written: a mirror of a name is another name.
-        Rules::InForce | Rules::MirrorsApart => around.contains(&Block::Lock(name)),
+        Rules::InForce | Rules::Before105 | Rules::MirrorsApart => {
+            around.contains(&Block::Lock(name))
+        }
         Rules::Before101 => false,
     }
 }
@@ -128,8 +131,8 @@ fn place(rules: Rules, open: &[Block]) -> Place {
     }
 }
 
-/// The pair that a LOCK records, by the names as written; none where it is passed over
-/// or nothing is held.
+/// The pair that a LOCK records, by its name and those of the blocks; none where it is
+/// passed over or nothing is held.
 fn lock_pair(rules: Rules, open: &[Block], name: u8) -> Option<Pair> {
     if passed_over(rules, thread(open).1, name) {
         return None;
@@ -142,8 +145,8 @@ fn lock_pair(rules: Rules, open: &[Block], name: u8) -> Option<Pair> {
     })
 }
 
-/// What a pair of a callee's row becomes at a CALL, by the names as written; none where
-/// an end is nothing.
+/// What a pair of a callee's row becomes at a CALL, by the names passed and held; none
+/// where an end is nothing.
 fn call_pair(place: Place, names: &[u8], pair: Pair) -> Option<Pair> {
     // Name 0 is what is held here, a parameter is the name passed for it.
     let rename = |name: u8| match name {
@@ -165,8 +168,18 @@ fn call_pair(place: Place, names: &[u8], pair: Pair) -> Option<Pair> {
 fn roots(rules: Rules, routine: &Routine) -> Vec<u8> {
     let roots = routine.roots();
     match rules {
-        Rules::InForce | Rules::Before101 => roots,
+        Rules::InForce | Rules::Before101 | Rules::Before105 => roots,
         Rules::MirrorsApart => (0..roots.len() as u8).collect(),
+    }
+}
+
+/// The routine with the names that its nests go by.
+fn named_for_nests(rules: Rules, routine: &Routine) -> Routine {
+    match rules {
+        // A mirror gives way to its root before any nest is looked at.
+        Rules::InForce | Rules::MirrorsApart => routine.renamed(&roots(rules, routine)),
+        // As written: a mirror of a name is another name. Before #101 there is no nest.
+        Rules::Before101 | Rules::Before105 => routine.clone(),
     }
 }
 
@@ -175,12 +188,12 @@ fn roots(rules: Rules, routine: &Routine) -> Vec<u8> {
 fn recorded(rules: Rules, routine: &Routine, rows: &[Pairs]) -> Pairs {
     let roots = roots(rules, routine);
     let mut pairs = Pairs::new();
-    let mut record = |written: Option<Pair>| {
+    let mut record = |found: Option<Pair>| {
         if let Some(Pair {
             held,
             wanted,
             label,
-        }) = written
+        }) = found
         {
             let pair = Pair {
                 held: roots[held as usize],
@@ -190,7 +203,7 @@ fn recorded(rules: Rules, routine: &Routine, rows: &[Pairs]) -> Pairs {
             add(&mut pairs, pair);
         }
     };
-    routine.walk(|item, open| match item {
+    named_for_nests(rules, routine).walk(|item, open| match item {
         Item::Lock { name } => record(lock_pair(rules, open, *name)),
         Item::Call { routine, names } => {
             let place = place(rules, open);
@@ -204,12 +217,12 @@ fn recorded(rules: Rules, routine: &Routine, rows: &[Pairs]) -> Pairs {
 }
 
 /// How many LOCK items of a table are passed over.
-pub fn locks_passed_over(table: &Table) -> usize {
+pub fn locks_passed_over(rules: Rules, table: &Table) -> usize {
     let mut count = 0;
     for routine in &table.routines {
-        routine.walk(|item, open| {
+        named_for_nests(rules, routine).walk(|item, open| {
             if let Item::Lock { name } = item {
-                count += usize::from(passed_over(Rules::InForce, thread(open).1, *name));
+                count += usize::from(passed_over(rules, thread(open).1, *name));
             }
         });
     }
@@ -455,17 +468,27 @@ mod tests {
         }
     }
 
-    /// The pairs that the one body with `parameters` parameters records, and how
-    /// many of its LOCK items are passed over.
-    fn recorded_in(parameters: u8, body: &[u8]) -> (Vec<(u8, u8, Label)>, usize) {
+    /// The pairs that a body records, and how many of its LOCK items are passed over.
+    type Recorded = (Vec<(u8, u8, Label)>, usize);
+
+    /// The same of the one body with `parameters` parameters.
+    fn recorded_by(rules: Rules, parameters: u8, body: &[u8]) -> Recorded {
         let section = [&[code::END], body].concat();
         let table = read(&assemble(&[0, parameters], &section)).expect("valid");
         let none = vec![Pairs::new(); 2];
-        let pairs = recorded(Rules::InForce, &table.routines[1], &none)
+        let pairs = recorded(rules, &table.routines[1], &none)
             .iter()
             .map(|pair| (pair.held, pair.wanted, pair.label))
             .collect();
-        (pairs, locks_passed_over(&table))
+        (pairs, locks_passed_over(rules, &table))
+    }
+
+    fn recorded_in(parameters: u8, body: &[u8]) -> Recorded {
+        recorded_by(Rules::InForce, parameters, body)
+    }
+
+    fn recorded_before_105(parameters: u8, body: &[u8]) -> Recorded {
+        recorded_by(Rules::Before105, parameters, body)
     }
 
     #[test]
@@ -524,30 +547,69 @@ mod tests {
         use code::*;
         use Label::{Fork, Own};
         let main = |pairs: &[(u8, u8)]| pairs.iter().map(|&(a, b)| (a, b, Own)).collect();
-        // 4 is a mirror of 1. Its LOCK is not passed over, and 1 is the h in its block.
+        // 4 is a mirror of 1. Its LOCK is passed over, and 2 is the h in its block.
+        let four_again = [
+            MIRROR, 1, LOCK, 1, LOCK, 2, LOCK, 4, LOCK, 3, END, END, END, END, END,
+        ];
         assert_eq!(
-            recorded_in(
-                3,
-                &[MIRROR, 1, LOCK, 1, LOCK, 2, LOCK, 4, LOCK, 3, END, END, END, END, END]
-            ),
-            (main(&[(0, 1), (1, 2), (1, 3), (2, 1)]), 0)
-        );
-        // Taken again by the same name it is passed over.
-        assert_eq!(
-            recorded_in(
-                3,
-                &[MIRROR, 1, LOCK, 4, LOCK, 2, LOCK, 4, LOCK, 3, END, END, END, END, END]
-            ),
+            recorded_in(3, &four_again),
             (main(&[(0, 1), (1, 2), (2, 3)]), 1)
         );
-        // Directly inside its lock the pair has equal ends.
+        // Before #105 it was not, and 1 was the h in its block.
         assert_eq!(
-            recorded_in(
-                2,
-                &[MIRROR, 1, LOCK, 1, LOCK, 3, LOCK, 2, END, END, END, END]
-            ),
+            recorded_before_105(3, &four_again),
+            (main(&[(0, 1), (1, 2), (1, 3), (2, 1)]), 0)
+        );
+        // The name whose mirror is held, and a mirror of that mirror.
+        for name in [1, 5] {
+            let again = [
+                MIRROR, 1, MIRROR, 4, LOCK, 4, LOCK, 2, LOCK, name, LOCK, 3, END, END, END, END,
+                END,
+            ];
+            assert_eq!(recorded_in(3, &again), (main(&[(0, 1), (1, 2), (2, 3)]), 1));
+            assert_eq!(
+                recorded_before_105(3, &again),
+                (main(&[(0, 1), (1, 2), (1, 3), (2, 1)]), 0)
+            );
+        }
+        // Taken again by the same name it was passed over before too.
+        let same_name = [
+            MIRROR, 1, LOCK, 4, LOCK, 2, LOCK, 4, LOCK, 3, END, END, END, END, END,
+        ];
+        for recorded in [recorded_in, recorded_before_105] {
+            assert_eq!(
+                recorded(3, &same_name),
+                (main(&[(0, 1), (1, 2), (2, 3)]), 1)
+            );
+        }
+        // Directly inside its lock the pair had equal ends before.
+        let directly = [MIRROR, 1, LOCK, 1, LOCK, 3, LOCK, 2, END, END, END, END];
+        assert_eq!(recorded_in(2, &directly), (main(&[(0, 1), (1, 2)]), 1));
+        assert_eq!(
+            recorded_before_105(2, &directly),
             (main(&[(0, 1), (1, 2)]), 0)
         );
+        // A fork holds nothing of its parent, whose nest goes on behind it.
+        let fork_inside = [
+            MIRROR, 1, LOCK, 1, FORK, LOCK, 2, LOCK, 3, END, END, END, LOCK, 2, LOCK, 3, END, END,
+            END, END,
+        ];
+        assert_eq!(
+            recorded_in(2, &fork_inside),
+            (vec![(0, 1, Own), (1, 2, Own), (2, 1, Fork(1))], 1)
+        );
+        assert_eq!(
+            recorded_before_105(2, &fork_inside),
+            (
+                vec![(0, 1, Own), (1, 2, Own), (2, 1, Own), (2, 1, Fork(1))],
+                0
+            )
+        );
+        // Behind the block of its lock the mirror records.
+        let behind = [MIRROR, 1, LOCK, 1, END, LOCK, 2, LOCK, 3, END, END, END];
+        for recorded in [recorded_in, recorded_before_105] {
+            assert_eq!(recorded(2, &behind), (main(&[(0, 1), (0, 2), (2, 1)]), 0));
+        }
         // In a fork, over a mirror of a mirror.
         assert_eq!(
             recorded_in(

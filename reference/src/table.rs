@@ -78,6 +78,24 @@ impl Routine {
         roots
     }
 
+    /// The routine with each name in a LOCK or a CALL replaced by the one at its place in
+    /// `names`. Its locals keep their numbers.
+    pub fn renamed(&self, names: &[u8]) -> Routine {
+        let rename = |name: &u8| names[*name as usize];
+        let items = self.items.iter().map(|item| match item {
+            Item::Lock { name } => Item::Lock { name: rename(name) },
+            Item::Call { routine, names } => Item::Call {
+                routine: *routine,
+                names: names.iter().map(rename).collect(),
+            },
+            other => other.clone(),
+        });
+        Routine {
+            parameters: self.parameters,
+            items: items.collect(),
+        }
+    }
+
     /// Visits each item with the blocks that are open where it stands, the
     /// outermost first. A LOCK stands outside the block that it opens.
     pub fn walk(&self, mut visit: impl FnMut(&Item, &[Block])) {

@@ -515,7 +515,7 @@ fn how_far_a_nest_goes() {
 }
 
 #[test]
-fn a_nest_is_of_one_body_and_by_name() {
+fn a_nest_is_of_one_body_and_tells_parameters_apart() {
     let table = rule("a callee does not hold what its caller holds");
     assert_eq!(row(&table, 1), (BOTH_WAYS_BESIDE_A_FORK.to_vec(), 1));
     assert_eq!(row(&table, 2), (vec![(0, 1, 1)], 0));

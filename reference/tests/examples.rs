@@ -1,37 +1,29 @@
-//! The example tables give the verdicts and the shares their comments name.
+//! The example tables give the pairs, the verdicts and the shares their comments name.
 
 use std::fs;
 use std::path::Path;
 
 use reference::cases::worked;
-use reference::limits::{MAX_ROUTINES, ROW_BYTES};
-use reference::{analyse, hex, Answer, Verdict};
+use reference::{hex, listing};
 
-/// The answer as the comment lines have it.
-fn comments(answer: Answer) -> Vec<String> {
-    match answer {
-        Answer::Accepted { verdict, share } => vec![
-            format!("# verdict: {}", words(verdict)),
-            format!(
-                "# share: {} {} {}",
-                share.percent, share.remainder, share.reached
-            ),
-        ],
-        Answer::Refused(number) => vec![format!("# verdict: refused {number}")],
-    }
+/// The listing as the comment lines have it: the pairs, the verdict and the share.
+fn comments(table: &[u8]) -> Vec<String> {
+    let text = String::from_utf8(listing(table)).expect("ASCII");
+    let pairs = text.lines().filter(|line| line.starts_with("pair "));
+    let verdict = text.lines().last().expect("a verdict");
+    let share = text.lines().find_map(|line| line.strip_prefix("share "));
+    pairs
+        .map(|pair| format!("# {pair}"))
+        .chain([format!("# verdict: {verdict}")])
+        .chain(share.map(|share| format!("# share: {share}")))
+        .collect()
 }
 
-fn words(verdict: Verdict) -> String {
-    match verdict {
-        Verdict::Clear => "clear".to_string(),
-        Verdict::Ring { routine, name } => format!("ring {routine} {name}"),
-    }
-}
-
-/// The comment lines from the first that names a verdict or a share to the last one.
+/// The comment lines from the first that names a pair, a verdict or a share to the last one.
 fn named(text: &str) -> Vec<&str> {
     let lines: Vec<&str> = text.lines().collect();
-    let names = |line: &&str| line.starts_with("# verdict:") || line.starts_with("# share:");
+    let begins = ["# pair ", "# verdict:", "# share:"];
+    let names = |line: &&str| begins.iter().any(|begin| line.starts_with(begin));
     match (lines.iter().position(names), lines.iter().rposition(names)) {
         (Some(first), Some(last)) => lines[first..=last].to_vec(),
         _ => vec![],
@@ -39,7 +31,7 @@ fn named(text: &str) -> Vec<&str> {
 }
 
 #[test]
-fn examples_get_the_verdict_and_the_share_in_their_comments() {
+fn examples_get_what_is_in_their_comments() {
     let folder = Path::new(env!("CARGO_MANIFEST_DIR")).join("../examples");
     let mut seen = Vec::new();
     for entry in fs::read_dir(folder).expect("the folder of examples") {
@@ -50,8 +42,7 @@ fn examples_get_the_verdict_and_the_share_in_their_comments() {
         let stem = path.file_stem().unwrap().to_string_lossy().into_owned();
         let text = fs::read_to_string(&path).expect("an example's text");
         let table = hex::parse(&text).expect("hexadecimal");
-        let answer = analyse(&table, &mut [0; ROW_BYTES * MAX_ROUTINES]);
-        assert_eq!(named(&text), comments(answer), "{stem}");
+        assert_eq!(named(&text), comments(&table), "{stem}");
         seen.push((stem, table));
     }
     // Every worked case has its example, with the same bytes.

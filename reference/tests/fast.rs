@@ -77,7 +77,12 @@ fn random_tables_of_routines_reached_and_not() {
 #[test]
 fn random_tables_of_mirrors() {
     let mut rng = Rng::new(6);
-    for kind in [Kind::Mirrors, Kind::LargeMirrors, Kind::BadMirrors] {
+    for kind in [
+        Kind::Mirrors,
+        Kind::LargeMirrors,
+        Kind::BadMirrors,
+        Kind::HeldMirrors,
+    ] {
         for index in 0..1_500 {
             let table = of_kind(&mut rng, kind);
             hold(&format!("table {index} of {kind:?}"), &table);
@@ -96,6 +101,8 @@ fn tables_cut_and_changed_everywhere() {
         Kind::Nested,
         Kind::Mirrors,
         Kind::Mirrors,
+        Kind::HeldMirrors,
+        Kind::HeldMirrors,
     ] {
         let table = of_kind(&mut rng, kind);
         for at in 0..table.len() {

@@ -1,24 +1,17 @@
-//! What request #101 changes: it takes pairs and rings away, and adds none.
+//! What nests change, by requests #101 and #105: they take pairs and rings away, and add
+//! none.
+
+mod common;
 
 use std::collections::BTreeSet;
 
-use reference::cases::{rules, worked};
-use reference::generate::{of_kind, random, Kind, Rng};
+use reference::generate::Kind;
 use reference::model::{least_model, verdict};
-use reference::table::{read, Table};
+use reference::table::Table;
 use reference::{Rules, Verdict};
 
-/// The accepted ones of the worked tables, those for the rules, and random ones.
 fn tables() -> Vec<Table> {
-    let cases = worked().into_iter().chain(rules()).map(|case| case.table);
-    let of_all_kinds = (0..3_000).map(|index| random(5, index).1);
-    let mut rng = Rng::new(5);
-    let nested = (0..1_000).map(|_| of_kind(&mut rng, Kind::Nested));
-    cases
-        .chain(of_all_kinds)
-        .chain(nested)
-        .filter_map(|table| read(&table).ok())
-        .collect()
+    common::accepted(5, &[Kind::Nested], 1_000)
 }
 
 #[test]

@@ -110,23 +110,23 @@ mask-gains p q t n =
     (λ a b l w. (w .0, w .1, in-one _ t l o (w .2)))
     (λ a b l w. (w .0, w .1, one-in _ t l (omega arith) o (w .2)))
 
--- from the holder outside LOCK x to the one inside: a pair with equal ends is not kept
-pub lock-gains : {g r : List (List ℕ)} (h x z t m : ℕ) → z < 16 → t ≤ most-forks
-    → Gains g (HoldersGive (heldBy h) (heldBy (holderUnder m h x z)) (labelOf t)) r
-    → Gains g (LockGives (Has m) x z (labelOf t) (heldBy h)) r
-lock-gains {g} {r} h x z t m k n = go (inNest m x) refl
+-- from the holder outside a LOCK to the one inside: a pair with equal ends is not kept
+pub lock-gains : {g r : List (List ℕ)} (h z t m : ℕ) → z < 16 → t ≤ most-forks
+    → Gains g (HoldersGive (heldBy h) (heldBy (holderUnder m h z)) (labelOf t)) r
+    → Gains g (LockGives (Has m) z (labelOf t) (heldBy h)) r
+lock-gains {g} {r} h z t m k n = go (inNest m z) refl
   where
-    go : (v : Bool) → inNest m x ≡ v → Gains g (HoldersGive (heldBy h) (heldBy (cond v h z)) (labelOf t)) r
-        → Gains g (LockGives (Has m) x z (labelOf t) (heldBy h)) r
+    go : (v : Bool) → inNest m z ≡ v → Gains g (HoldersGive (heldBy h) (heldBy (cond v h z)) (labelOf t)) r
+        → Gains g (LockGives (Has m) z (labelOf t) (heldBy h)) r
     go true e =
         gains-same
         (λ a b l w. ⊎-elim
         (λ ne. absurd (ne (let same : some a ≡ some b = sym (w .0) ∙ w .1 in cc)))
         (λ s. absurd (not-several t (omega arith) (sym (w .2) ∙ s))))
-        (λ a b l w kept. absurd (w .0 (in-nest m x e)))
+        (λ a b l w kept. absurd (w .0 (in-nest m z e)))
     go false e =
         gains-map
-        (λ a b l w. (not-in-nest m x e, w .0, held-same z b k (w .1), w .2))
+        (λ a b l w. (not-in-nest m z e, w .0, held-same z b k (w .1), w .2))
         (λ a b l w. (w .1, held-name z k ∙ ap some (sym (w .2)), w .3))
 
 -- the i-th name of a list

@@ -60,7 +60,7 @@ past [] = []
 past (level end none π ∷ ls) = ls
 past (level end (some (other b κ)) π ∷ ls) = level b none κ ∷ ls
 past (level (new x c) u π ∷ ls) = level c u (naming x x π) ∷ ls
-past (level (lock x c d) u π ∷ ls) = level c none (underLock x π) ∷ level d u π ∷ ls
+past (level (lock x c d) u π ∷ ls) = level c none (underLock (π .roots x) π) ∷ level d u π ∷ ls
 past (level (fork i c d) u π ∷ ls) = level c none (underFork i π) ∷ level d u π ∷ ls
 past (level (choice a b c) u π ∷ ls) = level a (some (other b π)) π ∷ level c u π ∷ ls
 past (level (call r xs c) u π ∷ ls) = level c u π ∷ ls
@@ -159,7 +159,7 @@ AtItem H (level c u π ∷ ls) = H c π
 abbrev pub InParts : (H F : Code → Place → Type 0) → Code → Place → Type 0
 InParts H F end π = ⊥
 InParts H F (new x c) π = F c (naming x x π)
-InParts H F (lock x c d) π = H (lock x c d) π ⊎ (F c (underLock x π) ⊎ F d π)
+InParts H F (lock x c d) π = H (lock x c d) π ⊎ (F c (underLock (π .roots x) π) ⊎ F d π)
 InParts H F (fork i c d) π = F c (underFork i π) ⊎ F d π
 InParts H F (choice a b c) π = F a π ⊎ (F b π ⊎ F c π)
 InParts H F (call r xs c) π = H (call r xs c) π ⊎ F c π
@@ -183,15 +183,15 @@ CallAt q (mirror x y c) π = ⊥
 abbrev pub PairIn : Pairs → ℕ → ℕ → Label → Code → Place → Type 0
 PairIn R a b l c π = RecordedFrom R c π a b l
 
--- what LOCK x, whose root is z, records in thread θ with the holder h and the names N in the nest
-abbrev pub LockGives : (ℕ → Type 0) → ℕ → ℕ → Label → Option ℕ → ℕ → ℕ → Label → Type 0
-LockGives N x z θ h a b l = (¬ N x) × (h ≡ some a) × (b ≡ z) × (l ≡ θ)
+-- what a LOCK on a name with the root z records in thread θ with the holder h and the roots N in the nest
+abbrev pub LockGives : (ℕ → Type 0) → ℕ → Label → Option ℕ → ℕ → ℕ → Label → Type 0
+LockGives N z θ h a b l = (¬ N z) × (h ≡ some a) × (b ≡ z) × (l ≡ θ)
 
 -- the first item records the pair
 abbrev pub PairAt : Pairs → ℕ → ℕ → Label → Code → Place → Type 0
 PairAt R a b l end π = ⊥
 PairAt R a b l (new x c) π = ⊥
-PairAt R a b l (lock x c d) π = LockGives (λ y. In y (π .nest)) x (π .roots x) (π .thread) (π .holder) a b l
+PairAt R a b l (lock x c d) π = LockGives (λ y. In y (π .nest)) (π .roots x) (π .thread) (π .holder) a b l
 PairAt R a b l (fork i c d) π = ⊥
 PairAt R a b l (choice u v c) π = ⊥
 PairAt R a b l (call r xs c) π = CallGives R r (map (π .roots) xs) (π .thread) (π .holder) a b l

@@ -79,8 +79,8 @@ record-start ks k s at rows f rs small selves = record {
 -- the pair from the holder outside a LOCK at the place to the one inside
 abbrev pub LockPairs : List ℕ → Walk → ℕ → ℕ → Label → Type 0
 LockPairs s w =
-    HoldersGive (heldBy (holderOf w))
-    (heldBy (holderUnder (nestOf w) (holderOf w) (argOf s w) (rootOf (w .roots) (argOf s w)))) (labelOf (threadOf w))
+    HoldersGive (heldBy (holderOf w)) (heldBy (holderUnder (nestOf w) (holderOf w) (rootOf (w .roots) (argOf s w))))
+    (labelOf (threadOf w))
 
 -- what a CALL at the place records
 abbrev pub CallPairs : List ℕ → List ℕ → List ℕ → Walk → ℕ → ℕ → Label → Type 0
@@ -89,13 +89,13 @@ CallPairs ks s rows w =
     (labelOf (threadOf w)) (heldBy (holderOf w))
 
 -- the same gains, with equals for equals
-lock-same : {g r : List (List ℕ)} (h t m : ℕ) (π : Place) (x y u v : ℕ) → Shows h t m π → x ≡ y → u ≡ v
-    → Gains g (LockGives (Has m) x u (labelOf t) (heldBy h)) r
-    → Gains g (LockGives (λ z. In z (π .nest)) y v (π .thread) (π .holder)) r
-lock-same h t m π x y u v k e f p =
+lock-same : {g r : List (List ℕ)} (h t m : ℕ) (π : Place) (u v : ℕ) → Shows h t m π → u ≡ v
+    → Gains g (LockGives (Has m) u (labelOf t) (heldBy h)) r
+    → Gains g (LockGives (λ z. In z (π .nest)) v (π .thread) (π .holder)) r
+lock-same h t m π u v k e p =
     gains-map
-    (λ a b l z. ((λ i. z .0 (k .nest .from x (rw e i))), k .holder ∙ z .1, z .2 ∙ f, z .3 ∙ sym (k .thread)))
-    (λ a b l z. ((λ i. z .0 (rw e at (k .nest .to x i))), sym (k .holder) ∙ z .1, z .2 ∙ sym f, z .3 ∙ k .thread))
+    (λ a b l z. ((λ i. z .0 (k .nest .from u (rw e i))), k .holder ∙ z .1, z .2 ∙ e, z .3 ∙ sym (k .thread)))
+    (λ a b l z. ((λ i. z .0 (rw e at (k .nest .to u i))), sym (k .holder) ∙ z .1, z .2 ∙ sym e, z .3 ∙ k .thread))
     p
 
 call-same : {g r : List (List ℕ)} (R : Pairs) (n m : ℕ) (xs ys : List ℕ) (θ ϑ : Label) (h i : Option ℕ) → n ≡ m
@@ -127,7 +127,8 @@ module _ (ks s t : List ℕ) (k : ℕ) (w : Walk) where
   thread-low [] p o = absurd (let z = p .count in omega arith)
   thread-low (level c u π ∷ ls) p o = top-entry ks s t k w c u π ls p o .low
 
-  lock-ready : (ls : List Level) → Left ks s t (w .at) (w .top) ls → Tracked k w ls → LockReady s (w .at) (byteOf s w)
+  lock-ready : (ls : List Level) → Left ks s t (w .at) (w .top) ls → Tracked k w ls
+      → LockReady (w .roots) s (w .at) (byteOf s w)
   lock-ready ls p o e =
       let r = ready ks s t k w ls p o (λ f. absurd (omega arith)) in (r .room LOCK e .0, r .names LOCK e)
 
@@ -141,10 +142,9 @@ module _ (ks s t : List ℕ) (k : ℕ) (w : Walk) where
       let y = top-entry ks s t k w _ _ _ _ p′ o′ in
       let n = o′ .scopes .0 in
       let z : rootOf (w .roots) (argOf s w) < 16 = rw x (root-low k w _ _ _ _ o′ (v .0) (n .uses .0)) in
-      rw (v .6) (lock-same (holderOf w) (threadOf w) (nestOf w) (v .4) (argOf s w) (v .0)
-      (rootOf (w .roots) (argOf s w)) (v .4 .roots (v .0)) y x
-      (ap (rootOf (w .roots)) x ∙ n .roots (v .0) (n .uses .0))
-      (lock-gains (holderOf w) (argOf s w) (rootOf (w .roots) (argOf s w)) (threadOf w) (nestOf w) z (y .low) q))
+      rw (v .6) (lock-same (holderOf w) (threadOf w) (nestOf w) (v .4) (rootOf (w .roots) (argOf s w))
+      (v .4 .roots (v .0)) y (ap (rootOf (w .roots)) x ∙ n .roots (v .0) (n .uses .0))
+      (lock-gains (holderOf w) (rootOf (w .roots) (argOf s w)) (threadOf w) (nestOf w) z (y .low) q))
 
   module _ (r : ℕ) (xs : List ℕ) (c : Code) (u : Option Alternative) (π : Place) (ls : List Level)
       (p : Left ks s t (w .at) (w .top) (level (call r xs c) u π ∷ ls)) where
@@ -216,7 +216,7 @@ module _ {ks : List ℕ} {k : ℕ} {s : List ℕ} {at : ℕ} {rows : List ℕ} {
   pub record-less : Going s (w .at) (w .top) → length s - nextWalk ks s w .at < length s - w .at
   record-less h = rw (next-place ks s w .0) (shrinks ks s (body .1) (w .at) (w .top) (here .levels) (here .left) h)
 
-  pub record-lock-ready : LockReady s (w .at) (byteOf s w)
+  pub record-lock-ready : LockReady (w .roots) s (w .at) (byteOf s w)
   record-lock-ready = lock-ready ks s (body .1) k w (here .levels) (here .left) (here .tracked)
 
   pub record-thread : threadOf w ≤ most-forks

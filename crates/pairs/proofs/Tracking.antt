@@ -23,7 +23,7 @@ use Rattle.rules.specs.laws.Nest.{by-nest, by-bind}
 use Rattle.grid.specs.Rows.{Has, Bits}
 use Rattle.grid.specs.laws.Masks.{bits-zero, bits-or, bits-one, bits-map}
 use Rattle.pairs.specs.Fine.{Uses, Fine}
-use Rattle.pairs.specs.Walks.{Walk, heldBy, byteOf, argOf, holderOf, threadOf, nestOf, inNest, withName, rootOf}
+use Rattle.pairs.specs.Walks.{Walk, heldBy, byteOf, argOf, holderOf, threadOf, nestOf, inNest, withRoot, rootOf}
 use Rattle.pairs.specs.Walks.{SelvesTo, Selves, holderUnder, startWalk, movedWalk, enteredWalk, localWalk}
 use Rattle.pairs.specs.Walks.{nextWalk, NamesFit, Ready}
 use Rattle.pairs.proofs.Pending.{Alternative, other, Level, level, past, secondLocals, secondForks, InScope}
@@ -116,47 +116,44 @@ module _ (k : ℕ) where
   }
 
 -- inside a LOCK the roots are those outside
-lock-roots : (x : ℕ) (π : Place) → underLock x π .roots ≡ π .roots
-lock-roots x π = by-nest (λ v. v .roots ≡ π .roots) x π (λ i. refl) (λ n. refl)
+lock-roots : (z : ℕ) (π : Place) → underLock z π .roots ≡ π .roots
+lock-roots z π = by-nest (λ v. v .roots ≡ π .roots) z π (λ i. refl) (λ n. refl)
 
 -- what the test of a nest tells
-pub in-nest : (m x : ℕ) → inNest m x ≡ true → Has m x
-in-nest m x e = eqb-true (m / 2 ^ x % 2) 1 e
+pub in-nest : (m z : ℕ) → inNest m z ≡ true → Has m z
+in-nest m z e = eqb-true (m / 2 ^ z % 2) 1 e
 
-pub not-in-nest : (m x : ℕ) → inNest m x ≡ false → ¬ Has m x
-not-in-nest m x e = eqb-false (m / 2 ^ x % 2) 1 e
+pub not-in-nest : (m z : ℕ) → inNest m z ≡ false → ¬ Has m z
+not-in-nest m z e = eqb-false (m / 2 ^ z % 2) 1 e
 
 -- the place after a NEW or MIRROR, as the walk shows it
 shows-naming : {h t m : ℕ} {π : Place} (x z : ℕ) → Shows h t m π → Shows h t m (naming x z π)
 shows-naming x z k = record { holder = k .holder; thread = k .thread; low = k .low; nest = k .nest }
 
--- the place inside a LOCK, as the walk shows it, where z is the root of the name
-module _ {h t m : ℕ} {π : Place} (k : Shows h t m π) (x z : ℕ) (low : x < 16) (root : z ≡ π .roots x)
-    (low-root : z < 16)
-  where
-    nest-more : Bits (withName m x) (λ y. (y ≡ x) ⊎ In y (π .nest))
-    nest-more = bits-map (λ y. ⊎-elim (λ i. inr i) (λ e. inl e)) (λ y. ⊎-elim (λ e. inr e) (λ i. inl i))
-        (bits-or (k .nest) (bits-one x low))
+-- the place inside a LOCK on a name with the root z, as the walk shows it
+module _ {h t m : ℕ} {π : Place} (k : Shows h t m π) (z : ℕ) (low : z < 16) where
+  nest-more : Bits (withRoot m z) (λ y. (y ≡ z) ⊎ In y (π .nest))
+  nest-more = bits-map (λ y. ⊎-elim (λ i. inr i) (λ e. inl e)) (λ y. ⊎-elim (λ e. inr e) (λ i. inl i))
+      (bits-or (k .nest) (bits-one z low))
 
-    shows-lock : Shows (holderUnder m h x z) t (withName m x) (underLock x π)
-    shows-lock = by-nest (λ v. Shows (holderUnder m h x z) t (withName m x) v) x π again first
-      where
-        again : In x (π .nest) → Shows (holderUnder m h x z) t (withName m x) π
-        again i = record {
-          holder = rw (k .nest .from x i) (k .holder);
-          thread = k .thread;
-          low = k .low;
-          nest = bits-map (λ y. ⊎-elim (λ e. rw e i) (λ j. j)) (λ y j. inr j) nest-more;
-        }
+  shows-lock : Shows (holderUnder m h z) t (withRoot m z) (underLock z π)
+  shows-lock = by-nest (λ v. Shows (holderUnder m h z) t (withRoot m z) v) z π again first
+    where
+      again : In z (π .nest) → Shows (holderUnder m h z) t (withRoot m z) π
+      again i = record {
+        holder = rw (k .nest .from z i) (k .holder);
+        thread = k .thread;
+        low = k .low;
+        nest = bits-map (λ y. ⊎-elim (λ e. rw e i) (λ j. j)) (λ y j. inr j) nest-more;
+      }
 
-        first : ¬ In x (π .nest) → Shows (holderUnder m h x z) t (withName m x) (nested x π)
-        first n = record {
-          holder = rw (ne-eqb (m / 2 ^ x % 2) 1 (λ e. n (k .nest .to x e)))
-              (ap some (sym root) ∙ sym (held-name z low-root));
-          thread = k .thread;
-          low = k .low;
-          nest = nest-more;
-        }
+      first : ¬ In z (π .nest) → Shows (holderUnder m h z) t (withRoot m z) (nested z π)
+      first n = record {
+        holder = rw (ne-eqb (m / 2 ^ z % 2) 1 (λ e. n (k .nest .to z e))) (sym (held-name z low));
+        thread = k .thread;
+        low = k .low;
+        nest = nest-more;
+      }
 
 -- entries from the n-th on do not matter to n levels
 second-set : (hs ts ns : List ℕ) (n v q m i : ℕ) (u : Option Alternative) → i < n → SecondEntry hs ts ns i u
@@ -333,10 +330,11 @@ module _ (ks s t : List ℕ) (k : ℕ) (w : Walk) where
       let a : argOf s w ≡ x = byte-at s (w .at) 1 _ (p .content) in
       let q = o .scopes .0 in
       let r = room ks s t (w .at) (w .top) _ p g LOCK e in
+      let z : rootOf (w .roots) x ≡ π .roots x = q .roots x (q .uses .0) in
       rw (by-byte ks s w 2 e)
-      (rw a (opens (w .at + 2) (w .forks) (holderUnder (nestOf w) (holderOf w) x (rootOf (w .roots) x)) (threadOf w)
-      (withName (nestOf w) x) c d none u π (underLock x π) ls p o (r .1) (
-        named-part k q (lock-roots x π) (q .numbered .0) (q .uses .1),
+      (rw (a, z) (opens (w .at + 2) (w .forks) (holderUnder (nestOf w) (holderOf w) (π .roots x)) (threadOf w)
+      (withRoot (nestOf w) (π .roots x)) c d none u π (underLock (π .roots x) π) ls p o (r .1) (
+        named-part k q (lock-roots (π .roots x) π) (q .numbered .0) (q .uses .1),
         tt,
         (
           named-at k _ _ π d (omega arith) (omega arith) (named-part k q refl (q .numbered .1) (q .uses .2)),
@@ -344,8 +342,7 @@ module _ (ks s t : List ℕ) (k : ℕ) (w : Walk) where
           scopes-at k _ _ ls (omega arith) (omega arith) (o .scopes .2),
         ),
       )
-      (shows-lock (top-entry _ u π ls p o) x (rootOf (w .roots) x) (name-low k w _ u π ls o x (q .uses .0))
-      (q .roots x (q .uses .0)) (root-low k w _ u π ls o x (q .uses .0))) tt))
+      (shows-lock (top-entry _ u π ls p o) (π .roots x) (rw z at (root-low k w _ u π ls o x (q .uses .0)))) tt))
   track (level (fork i c d) u π ∷ ls) p g o =
       let e : byteOf s w ≡ 3 = first-byte s (w .at) _ _ (p .content) in
       let q = o .scopes .0 in
@@ -416,7 +413,8 @@ module _ (ks s t : List ℕ) (k : ℕ) (w : Walk) where
       let o′ : Tracked k w (level (lock (v .0) (v .1) (v .2)) (v .3) (v .4) ∷ v .5) = rw (v .6) at o in
       let p′ : Left ks s t (w .at) (w .top) (level (lock (v .0) (v .1) (v .2)) (v .3) (v .4) ∷ v .5) = rw (v .6) at p in
       let a : argOf s w ≡ v .0 = byte-at s (w .at) 1 _ (p′ .content) in
-      rw a (name-low k w _ _ _ _ o′ (v .0) (o′ .scopes .0 .uses .0))
+      let i = o′ .scopes .0 .uses .0 in
+      rw a (name-low k w _ _ _ _ o′ (v .0) i, root-low k w _ _ _ _ o′ (v .0) i)
   names-met ls p o FORK e =
       let v = at-kind ks s t (w .at) (w .top) FORK ls p e in
       let o′ : Tracked k w (level (fork (v .0) (v .1) (v .2)) (v .3) (v .4) ∷ v .5) = rw (v .6) at o in

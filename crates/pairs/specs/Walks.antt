@@ -56,21 +56,25 @@ holderOf w = getD (w .holders) (w .top) 0
 abbrev pub threadOf : Walk → ℕ
 threadOf w = getD (w .threads) (w .top) 0
 
--- the nest of the place, as a mask of names
+-- the nest of the place, as a mask of roots
 abbrev pub nestOf : Walk → ℕ
 nestOf w = getD (w .nests) (w .top) 0
 
--- the name x is in the nest m
+-- the root z is in the nest m
 abbrev pub inNest : ℕ → ℕ → Bool
-inNest m x = eqb (m / 2 ^ x % 2) 1
+inNest m z = eqb (m / 2 ^ z % 2) 1
 
--- the nest m with the name x
-abbrev pub withName : ℕ → ℕ → ℕ
-withName m x = bitOr m (1 * 2 ^ x % 65536)
+-- the nest m with the root z
+abbrev pub withRoot : ℕ → ℕ → ℕ
+withRoot m z = bitOr m (1 * 2 ^ z % 65536)
 
 -- the root of the name x
 abbrev pub rootOf : List ℕ → ℕ → ℕ
 rootOf rs x = getD rs x 0
+
+-- x is a name, and so is its root
+abbrev pub LowRoot : List ℕ → ℕ → Type 0
+LowRoot rs x = (x < most-names) × (rootOf rs x < most-names)
 
 -- there is a root for each name, and each name below n is its own
 abbrev pub SelvesTo : List ℕ → ℕ → Type 0
@@ -80,14 +84,14 @@ SelvesTo rs n = (length rs ≡ most-names) × ((x : ℕ) → x < n → rootOf rs
 abbrev pub Selves : List ℕ → Type 0
 Selves rs = SelvesTo rs most-names
 
--- the holder inside LOCK x, where z is the root of x, h the holder outside and m the nest
-abbrev pub holderUnder : ℕ → ℕ → ℕ → ℕ → ℕ
-holderUnder m h x z = cond (inNest m x) h z
+-- the holder inside a LOCK on a name with the root z, where h is the holder outside and m the nest
+abbrev pub holderUnder : ℕ → ℕ → ℕ → ℕ
+holderUnder m h z = cond (inNest m z) h z
 
 -- the holder inside the item with code b at an offset, a FORK excepted, where h is the one outside it and m the nest
 abbrev pub holderInside : List ℕ → List ℕ → ℕ → ℕ → ℕ → ℕ → ℕ
 holderInside rs s at b h m =
-    cond (eqb b (code LOCK)) (holderUnder m h (getD s (at + 1) 0) (rootOf rs (getD s (at + 1) 0))) h
+    cond (eqb b (code LOCK)) (holderUnder m h (rootOf rs (getD s (at + 1) 0))) h
 
 -- the walk at the start of the body of a routine with k parameters
 abbrev pub startWalk : ℕ → ℕ → List ℕ → Walk
@@ -180,8 +184,8 @@ passedBy ks s w b = movedWalk w (pastBy ks s (w .at) b) (topBy (w .top) b)
 abbrev pub walkBy : List ℕ → List ℕ → Walk → ℕ → Walk
 walkBy ks s w b =
     cond (eqb b (code LOCK)) (enteredWalk (passedBy ks s w b) (w .forks)
-    (holderUnder (nestOf w) (holderOf w) (argOf s w) (rootOf (w .roots) (argOf s w))) (threadOf w)
-    (withName (nestOf w) (argOf s w)))
+    (holderUnder (nestOf w) (holderOf w) (rootOf (w .roots) (argOf s w))) (threadOf w)
+    (withRoot (nestOf w) (rootOf (w .roots) (argOf s w))))
     (cond (eqb b (code FORK)) (enteredWalk (passedBy ks s w b) (w .forks + 1) most-names (w .forks + 1) 0)
     (cond (eqb b (code CHOICE)) (enteredWalk (passedBy ks s w b) (w .forks) (holderOf w) (threadOf w) (nestOf w))
     (cond (eqb b (code NEW)) (localWalk (passedBy ks s w b) (w .last + 1))
@@ -202,9 +206,9 @@ pub record Passable (ks s : List ℕ) (at : ℕ) : Type 0 where
   pub here : at < length s
   pub routine : getD s at 0 ≡ code CALL → (at + 1 < length s) × (getD s (at + 1) 0 < length ks)
 
--- where the item with code b is a LOCK, its name is there
-abbrev pub LockReady : List ℕ → ℕ → ℕ → Type 0
-LockReady s at b = b ≡ code LOCK → (at + 1 < length s) × (getD s (at + 1) 0 < most-names)
+-- where the item with code b is a LOCK, its name is there, and has a root
+abbrev pub LockReady : List ℕ → List ℕ → ℕ → ℕ → Type 0
+LockReady rs s at b = b ≡ code LOCK → (at + 1 < length s) × LowRoot rs (getD s (at + 1) 0)
 
 -- an item with code b can stand where top is the innermost open level
 pub record LevelReady (b top : ℕ) : Type 0 where
@@ -227,7 +231,7 @@ RoomAt ks s at top MIRROR = at + 1 < length s
 abbrev pub NamesFit : List ℕ → Walk → Op → Type 0
 NamesFit s w END = Unit {0}
 NamesFit s w NEW = w .last + 1 < most-names
-NamesFit s w LOCK = argOf s w < most-names
+NamesFit s w LOCK = LowRoot (w .roots) (argOf s w)
 NamesFit s w FORK = w .forks < most-forks
 NamesFit s w CHOICE = Unit {0}
 NamesFit s w OTHER = Unit {0}

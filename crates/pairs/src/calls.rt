@@ -11,6 +11,7 @@ ghost use Rattle.pairs.specs.Gains.{Gains, HoldersGive, CallGives, MaskG
 ghost use Rattle.rows.specs.Model.{RowBits};
 ghost use Rattle.pairs.specs.Gains.{CallReady, RowReady, LineGives, RowGives};
 use crate::walk::NOTHING;
+use crate::walk::root_of;
 use grid::Grid;
 use grid::put_labels;
 use rules::SEVERAL_BIT;
@@ -44,7 +45,7 @@ fn renamed(roots: &[u8; MOST_NAMES], s: &[u8], at: usize, k: usize, holder: u8, 
         return NOTHING;
     }
     let x = s[at + (i - 1)];
-    let name = roots[size(x)];
+    let name = root_of(roots, x);
     name
 }
 
@@ -62,7 +63,7 @@ fn put_cell(g: &mut Grid, a: u8, b: u8, m: u16)
 }
 
 // Adds the pair of a LOCK to the grid in place: from the holder outside it to the one inside; t is the thread. Where
-// they are the same, as where the name is in the nest already, or where one is nothing, there is no pair.
+// they are the same, as where the root of the name is in the nest already, or where one is nothing, there is no pair.
 pub fn locked(g: &mut Grid, h: u8, inside: u8, t: u8)
     requires { ⌜ (t ≤ most-forks) × Small (now g) × Square (now g) ⌝ }
     ensures gains { λ _. ⌜ Gains (now (g .entry)) (HoldersGive (heldBy h) (heldBy inside) (labelOf t))

@@ -2,8 +2,8 @@
 ghost use mathlib.Core.Path.{_≡_};
 ghost use Prim.Native.Nat.{_+_, _≤_, _<_};
 ghost use Rattle.table.specs.Constants.{most-names, most-open};
-ghost use Rattle.pairs.specs.Walks.{walkOf, rootOf, Selves, inNest, withName, holderUnder, pastItem, topBy};
-ghost use Rattle.pairs.specs.Walks.{Enters, AddsLocal, nextWalk, holderInside, LockReady, Given};
+ghost use Rattle.pairs.specs.Walks.{walkOf, rootOf, LowRoot, Selves, inNest, withRoot, holderUnder, pastItem};
+ghost use Rattle.pairs.specs.Walks.{topBy, Enters, AddsLocal, nextWalk, holderInside, LockReady, Given};
 ghost use Rattle.pairs.specs.Walks.{IsOver, Passable, LevelReady, Ready};
 use table::limits::CALL;
 use table::limits::CHOICE;
@@ -44,6 +44,14 @@ pub fn selves() -> [u8; MOST_NAMES]
     roots
 }
 
+// The root of the name x.
+pub fn root_of(roots: &[u8; MOST_NAMES], x: u8) -> u8
+    requires { ⌜ x < most-names ⌝ }
+    ensures { λ r. ⌜ r ≡ rootOf (now (roots .entry)) x ⌝ }
+{
+    roots[size(x)]
+}
+
 // Whether the item with code b is the END of the body, where `top` is the innermost open level.
 pub fn over(b: u8, top: usize) -> bool
     ensures { λ r. ⌜ IsOver b top r ⌝ }
@@ -78,35 +86,35 @@ pub fn level(b: u8, top: usize) -> usize
     }
 }
 
-// Whether the name x is in the nest, a mask of names.
-fn in_nest(nest: u16, x: u8) -> bool
-    requires { ⌜ x < most-names ⌝ }
-    ensures { λ r. ⌜ r ≡ inNest nest x ⌝ }
+// Whether the root z is in the nest, a mask of roots.
+fn in_nest(nest: u16, z: u8) -> bool
+    requires { ⌜ z < most-names ⌝ }
+    ensures { λ r. ⌜ r ≡ inNest nest z ⌝ }
 {
-    (nest >> (x as u16)) % 2 == 1
+    (nest >> (z as u16)) % 2 == 1
 }
 
-// The nest with the name x.
-fn with_name(nest: u16, x: u8) -> u16
-    requires { ⌜ x < most-names ⌝ }
-    ensures { λ r. ⌜ r ≡ withName nest x ⌝ }
+// The nest with the root z.
+fn with_root(nest: u16, z: u8) -> u16
+    requires { ⌜ z < most-names ⌝ }
+    ensures { λ r. ⌜ r ≡ withRoot nest z ⌝ }
 {
-    nest | (1u16 << (x as u16))
+    nest | (1u16 << (z as u16))
 }
 
-// The holder inside LOCK x, where h is the one outside it: the same, where the name is in the nest already, else the
-// root of the name.
+// The holder inside LOCK x, where h is the one outside it: the same, where the root of the name is in the nest already,
+// else that root.
 fn holder_under(roots: &[u8; MOST_NAMES], nest: u16, h: u8, x: u8) -> u8
-    requires { ⌜ x < most-names ⌝ }
-    ensures { λ r. ⌜ r ≡ holderUnder nest h x (rootOf (now (roots .entry)) x) ⌝ }
+    requires { ⌜ LowRoot (now roots) x ⌝ }
+    ensures { λ r. ⌜ r ≡ holderUnder nest h (rootOf (now (roots .entry)) x) ⌝ }
 {
-    let root = roots[size(x)];
-    if in_nest(nest, x) { h } else { root }
+    let root = root_of(roots, x);
+    if in_nest(nest, root) { h } else { root }
 }
 
 // The holder inside the item with code b at `at`, a FORK excepted, where h is the one outside it.
 pub fn holder_inside(roots: &[u8; MOST_NAMES], s: &[u8], at: usize, b: u8, h: u8, nest: u16) -> u8
-    requires { ⌜ LockReady (now s) at b ⌝ }
+    requires { ⌜ LockReady (now roots) (now s) at b ⌝ }
     ensures { λ r. ⌜ r ≡ holderInside (now (roots .entry)) (now (s .entry)) at b h nest ⌝ }
 {
     if b == LOCK {
@@ -159,7 +167,7 @@ fn with_local(p: Place, root: u8, roots: &mut [u8; MOST_NAMES]) -> Place
 }
 
 // The place past the item at p, where the holder inside the item, as of `holder_inside`, the thread and the nest are
-// given. The arrays have the holder (a name or NOTHING), the thread (a label number) and the nest (a mask of names) of
+// given. The arrays have the holder (a name or NOTHING), the thread (a label number) and the nest (a mask of roots) of
 // each open level: where the item opens one, its entries are written. `roots` has the root of each name: where the item
 // gives a name, its root is written, for a MIRROR that of the name that it mirrors.
 pub fn step(
@@ -191,7 +199,9 @@ pub fn step(
     };
     match b {
         LOCK => {
-            let m = with_name(nest, s[i + 1]);
+            let x = s[i + 1];
+            let root = root_of(roots, x);
+            let m = with_root(nest, root);
             entered(q, forks, inside, thread, m, holders, threads, nests)
         }
         FORK => entered(q, forks + 1, NOTHING, forks + 1, 0, holders, threads, nests),
@@ -199,7 +209,7 @@ pub fn step(
         NEW => with_local(q, p.last + 1, roots),
         MIRROR => {
             let y = s[i + 1];
-            let root = roots[size(y)];
+            let root = root_of(roots, y);
             with_local(q, root, roots)
         }
         _ => q,

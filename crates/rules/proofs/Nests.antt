@@ -14,7 +14,8 @@ use Rattle.rules.specs.Verdict.{Clear, RingAt}
 use Rattle.rules.specs.laws.Lists.{Found}
 use Rattle.rules.specs.laws.Satisfies.{Pairs, RowOf}
 use Rattle.rules.specs.laws.Certificate.{Pair, pair, recordedOf, settled?, is-recorded-by}
-use Rattle.rules.specs.laws.Before101.{RecordedBefore, ModelBefore, ClearBefore, FirstTakings, same-before}
+use Rattle.rules.specs.laws.Older.{RecordedBy, ModelBy, ClearBy}
+use Rattle.rules.specs.laws.Before101.{never, FirstTakings, same-before}
 use Rattle.rules.specs.laws.Judge.{is-clear, is-ring-at}
 use Rattle.rules.proofs.Readings.{routine, table-g, clear-g}
 
@@ -125,11 +126,11 @@ clear-j : Clear table-j
 unfolding ℕ-discrete
 clear-j = is-clear table-j tt
 
-ring-j-before : ModelBefore table-j 0 1 1 several
+ring-j-before : ModelBy never table-j 0 1 1 several
 ring-j-before M ok =
     ok .follows 0 1 2 1 (forked 1) own
-    (ok .records 0 1 2 (forked 1) (inl (inr (inl (inl (refl, refl, refl))))) (inl (λ e. omega arith)))
-    (ok .records 0 2 1 own (inr (inr (inl (inr (inl (inl (refl, refl, refl))))))) (inl (λ e. omega arith)))
+    (ok .records 0 1 2 (forked 1) (inl (inr (inl (inl (tt, refl, refl, refl))))) (inl (λ e. omega arith)))
+    (ok .records 0 2 1 own (inr (inr (inl (inr (inl (inl (tt, refl, refl, refl))))))) (inl (λ e. omega arith)))
     (inr refl)
 
 -- table j with LOCK 2 and the second LOCK 1 of the main thread in a fork: the ring is there
@@ -142,7 +143,7 @@ other-than : (x y : ℕ) → (x ≡ y → ⊥) → (x ≡ y) ⊎ ⊥ → ⊥
 other-than x y n (inl e) = n e
 other-than x y n (inr i) = i
 
--- table g has no LOCK on a name of its nest, so it was clear as it is now
+-- table g has no LOCK on a name whose root is in its nest, so it was clear as it is now
 first-takings-g : (r : ℕ) → FirstTakings (body table-g r) atHead
 first-takings-g zero = tt
 first-takings-g (suc zero) = (
@@ -152,7 +153,7 @@ first-takings-g (suc zero) = (
 )
 first-takings-g (suc (suc r)) = tt
 
-clear-g-before : ClearBefore table-g
+clear-g-before : ClearBy never table-g
 clear-g-before r x reached ring = clear-g r x reached (same-before table-g first-takings-g ring)
 
 -- table e takes a name again in each of its threads, and was clear: by the rules without the nest, too, its pairs lead
@@ -165,27 +166,28 @@ FromZero r a b l = (a ≡ 0) × (0 < b)
 
 -- a LOCK inside a block of the same name: its pair has equal ends and one thread, and is not kept
 not-kept :
-    {a b : ℕ} {l m : Label} → (_≡_ {A = Option ℕ} (some 1) (some a)) × (b ≡ 1) × (l ≡ m) → (m ≡ several → ⊥)
+    {a b : ℕ} {l m : Label} → Unit {0} × (_≡_ {A = Option ℕ} (some 1) (some a)) × (b ≡ 1) × (l ≡ m)
+    → (m ≡ several → ⊥)
     → Kept a b l → ⊥
 not-kept q n (inl ne) = ne (let z : _ ≡ _ = cc in z)
 not-kept q n (inr e) = n (cc)
 
 recorded-e :
     (r a b : ℕ) (l : Label)
-    → RecordedBefore (RowOf table-e FromZero) (body table-e r) own (λ x. x) (some 0) a b l → Kept a b l
+    → RecordedBy never (RowOf table-e FromZero) (body table-e r) atHead a b l → Kept a b l
     → FromZero r a b l
-recorded-e zero a b l (inl (inl q)) k = absurd (Option·none-ne-some a (q .0))
+recorded-e zero a b l (inl (inl q)) k = absurd (Option·none-ne-some a (q .1))
 recorded-e zero a b l (inl (inr (inl (inl q)))) k =
     absurd (not-kept q (λ e. let z : _≡_ {A = ℕ} 0 1 = cc in omega arith) k)
 recorded-e zero a b l (inl (inr (inl (inr (inl q))))) k = absurd q
 recorded-e zero a b l (inl (inr (inl (inr (inr q))))) k = absurd q
-recorded-e zero a b l (inr (inl q)) k = (cc, (let z : b ≡ 1 = q .1 in omega arith))
+recorded-e zero a b l (inr (inl q)) k = (cc, (let z : b ≡ 1 = q .2 in omega arith))
 recorded-e zero a b l (inr (inr (inl (inl q)))) k =
     absurd (not-kept q (λ e. let z : _≡_ {A = ℕ} 0 1 = cc in omega arith) k)
 recorded-e zero a b l (inr (inr (inl (inr (inl q))))) k = absurd q
 recorded-e zero a b l (inr (inr (inl (inr (inr q))))) k = absurd q
 
-clear-e-before : ClearBefore table-e
+clear-e-before : ClearBy never table-e
 clear-e-before r x reached ring =
     let q = ring FromZero (record {
       records = recorded-e;

@@ -22,7 +22,7 @@ renamed h xs zero = h
 renamed h xs (suc i) = getElem? xs i
 
 -- a place in a body: its thread, the root of each name in scope (the parameter or NEW name behind its mirrors), its
--- holder h (none for nothing), and its nest, the names, as written, of the LOCK blocks of that thread that are open
+-- holder h (none for nothing), and its nest, the roots of the names of the LOCK blocks of that thread that are open
 -- there in this body
 pub record Place : Type 0 where
   pub thread : Label
@@ -42,30 +42,31 @@ bind x z f y = cond (eqb y x) z (f y)
 abbrev pub naming : ℕ → ℕ → Place → Place
 naming x z w = record { thread = w .thread; roots = bind x z (w .roots); holder = w .holder; nest = w .nest }
 
--- the place with the root of x as its holder, and x put into its nest
+-- the place with the root z as its holder, and put into its nest
 abbrev pub nested : ℕ → Place → Place
-nested x w = record { thread = w .thread; roots = w .roots; holder = some (w .roots x); nest = x ∷ w .nest }
+nested z w = record { thread = w .thread; roots = w .roots; holder = some z; nest = z ∷ w .nest }
 
--- the head of the block of LOCK x: the place outside where x is in its nest already, else x is nested
+-- the head of the block of a LOCK, z its name's root: the place outside where z is in its nest, else z is nested
 abbrev pub underLock : ℕ → Place → Place
-underLock x w = cond (in? x (w .nest)) w (nested x w)
+underLock z w = cond (in? z (w .nest)) w (nested z w)
 
 -- the head of the block of FORK i: that thread, with nothing as its holder and an empty nest, whatever is held outside
 abbrev pub underFork : ℕ → Place → Place
 underFork i w = record { thread = forked i; roots = w .roots; holder = none; nest = [] }
 
--- Recorded P c w a b l: the code c, at the place w, records the pair (a, b) labelled l. A LOCK on a name of the nest
--- records nothing itself (at-lock). Model P r a b l: the pair is among those worked out in the body of routine r.
+-- Recorded P c w a b l: the code c, at the place w, records the pair (a, b) labelled l. A LOCK on a name whose root is
+-- in the nest records nothing itself (at-lock). Model P r a b l: the pair is among those worked out in the body of
+-- routine r.
 mutual
   pub data Recorded (P : Program) : Code → Place → ℕ → ℕ → Label → Type 0 where
     in-new : {x : ℕ} {c : Code} {w : Place} {a b : ℕ} {l : Label}
         → Recorded P c (naming x x w) a b l
         → Recorded P (new x c) w a b l
     at-lock : {x : ℕ} {c d : Code} {w : Place} {a b : ℕ} {l : Label}
-        → ¬ In x (w .nest) → w .holder ≡ some a → b ≡ w .roots x → l ≡ w .thread
+        → ¬ In (w .roots x) (w .nest) → w .holder ≡ some a → b ≡ w .roots x → l ≡ w .thread
         → Recorded P (lock x c d) w a b l
     in-lock : {x : ℕ} {c d : Code} {w : Place} {a b : ℕ} {l : Label}
-        → Recorded P c (underLock x w) a b l
+        → Recorded P c (underLock (w .roots x) w) a b l
         → Recorded P (lock x c d) w a b l
     after-lock : {x : ℕ} {c d : Code} {w : Place} {a b : ℕ} {l : Label}
         → Recorded P d w a b l

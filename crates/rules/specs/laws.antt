@@ -8,10 +8,12 @@ pub mod Tests
 pub mod Lists
 pub mod Share
 pub mod Nest
+pub mod Older
 pub mod Before101
 pub mod Table
 pub mod Number
 pub mod Before103
 pub mod Before104
+pub mod Before105
 pub mod Certificate
 pub mod Judge

@@ -110,6 +110,26 @@ held-by-both :
 unfolding step taken? elsewhere? some? in? ℕ-discrete
 held-by-both = refl
 
+-- The same with another lock between, while a fork waits for the first: the thread goes on, and holds the first twice.
+abbrev mirroring-around : Program
+mirroring-around =
+    routine 0 (new 1 (new 2 (mirror 3 1
+    (fork 1 (lock 1 (lock 2 end end) end)
+    (lock 1 (lock 2 (lock 3 end end) end) end)))))
+    ∷ []
+
+held-around :
+    view mirroring-around (go 0 ∷ go 0 ∷ go 0 ∷ go 0 ∷ go 0 ∷ go 0 ∷ go 1 ∷ go 0 ∷ [])
+    ≡ record {
+      threads =
+          here end (0 ∷ 1 ∷ 0 ∷ []) (0 ∷ 1 ∷ 0 ∷ []) 3
+          ∷ here (lock 1 (lock 2 end end) end) (0 ∷ 1 ∷ 0 ∷ []) [] 0
+          ∷ [];
+      made = 2;
+    }
+unfolding step taken? elsewhere? some? in? ℕ-discrete
+held-around = refl
+
 -- Inside a LOCK block, a called routine and an alternative: the parameter's lock has a second name there, which is out
 -- of scope after the alternative.
 abbrev mirroring-inside : Program

@@ -4,10 +4,13 @@
 //! boundary tables, some plain runs of bytes and COUNT random tables of SEED. It
 //! prints one summary line, or the first difference and exits with 1.
 //!
-//! Where COUNT is 1,000 or more, it also exits with 1 if none of the random tables would
-//! have come out otherwise before request #101, if fewer than a third of them are
-//! accepted tables with a mirror, or if none of those would come out otherwise with each
-//! mirror a NEW lock of its own.
+//! It also exits with 1 if one of the random tables was clear before request #105 and is
+//! a ring with it.
+//!
+//! Where COUNT is 1,000 or more, it does so too if none of the random tables would have
+//! come out otherwise before request #101, if fewer than a third of them are accepted
+//! tables with a mirror, if none of those would come out otherwise with each mirror a NEW
+//! lock of its own, or if none of them would have come out otherwise before request #105.
 //!
 //! None of the archive's numbers has the share in it: the listings that `frames` writes
 //! are there to compare that.
@@ -134,7 +137,7 @@ mod changes {
     use reference::limits::ROW_BYTES;
     use reference::model::locks_passed_over;
     use reference::table::{read, Table};
-    use reference::{analyse_by, Answer, Rules};
+    use reference::{analyse_by, Answer, Rules, Verdict};
 
     #[derive(Default)]
     pub struct Tally {
@@ -146,31 +149,54 @@ mod changes {
         pub mirrors: u64,
         /// Those whose answer or model is another with each mirror a NEW lock of its own.
         pub by_mirrors: u64,
+        /// Those with a LOCK that is passed over by its lock and not by its name.
+        pub held_mirrors: u64,
+        /// Those whose answer or model was another before request #105.
+        pub by_held_mirrors: u64,
+        /// Those whose verdict was another before request #105.
+        pub verdicts: u64,
     }
 
-    /// Counts one table, which may be a refused one.
-    pub fn count(tally: &mut Tally, bytes: &[u8]) {
+    /// Counts one table, which may be a refused one; or says what no table may do.
+    pub fn count(tally: &mut Tally, bytes: &[u8]) -> Result<(), String> {
         let Ok(table) = read(bytes) else {
-            return;
+            return Ok(());
         };
+        let passed_over = |rules| locks_passed_over(rules, &table);
+        let now = outcome(Rules::InForce, bytes, &table);
+        let changes = |rules| outcome(rules, bytes, &table) != now;
         // Elsewhere the rules are the same.
-        if locks_passed_over(&table) > 0 {
+        if passed_over(Rules::InForce) > 0 {
             tally.passed_over += 1;
-            tally.by_nests += u64::from(changes(Rules::Before101, bytes, &table));
+            tally.by_nests += u64::from(changes(Rules::Before101));
         }
         if table.mirrors() > 0 {
             tally.mirrors += 1;
-            tally.by_mirrors += u64::from(changes(Rules::MirrorsApart, bytes, &table));
+            tally.by_mirrors += u64::from(changes(Rules::MirrorsApart));
+            let by_lock_alone = passed_over(Rules::InForce) != passed_over(Rules::Before105);
+            tally.held_mirrors += u64::from(by_lock_alone);
+            let before = outcome(Rules::Before105, bytes, &table);
+            tally.by_held_mirrors += u64::from(before != now);
+            let [old, new] = [&before, &now].map(|outcome| verdict(outcome.0));
+            tally.verdicts += u64::from(old != new);
+            if old == Some(Verdict::Clear) && old != new {
+                return Err("clear before request #105, a ring with it".to_string());
+            }
         }
+        Ok(())
     }
 
-    /// Whether these rules give another answer or model than those in force.
-    fn changes(rules: Rules, bytes: &[u8], table: &Table) -> bool {
-        let outcome = |rules| -> (Answer, Vec<u8>) {
-            let mut model = vec![0; ROW_BYTES * table.routines.len()];
-            (analyse_by(rules, bytes, &mut model), model)
-        };
-        outcome(rules) != outcome(Rules::InForce)
+    /// The answer and the model by these rules.
+    fn outcome(rules: Rules, bytes: &[u8], table: &Table) -> (Answer, Vec<u8>) {
+        let mut model = vec![0; ROW_BYTES * table.routines.len()];
+        (analyse_by(rules, bytes, &mut model), model)
+    }
+
+    fn verdict(answer: Answer) -> Option<Verdict> {
+        match answer {
+            Answer::Accepted { verdict, .. } => Some(verdict),
+            Answer::Refused(_) => None,
+        }
     }
 
     /// What is missing in `count` random tables, none where all is there.
@@ -181,6 +207,8 @@ mod changes {
             Some("too few are accepted and have a mirror")
         } else if tally.by_mirrors == 0 {
             Some("none is another with each mirror a lock of its own")
+        } else if tally.by_held_mirrors == 0 {
+            Some("none was another before request #105")
         } else {
             None
         }
@@ -243,12 +271,11 @@ fn run(seed: u64, count: u64) -> Result<String, String> {
     let mut changes = changes::Tally::default();
     for index in 0..count {
         let (kind, table) = random(seed, index);
-        one(
-            format!("random table {index} of seed {seed}, {kind:?}"),
-            &table,
-        )?;
+        let what = format!("random table {index} of seed {seed}, {kind:?}");
+        one(what.clone(), &table)?;
         *kinds.entry(kind).or_insert(0) += 1;
-        changes::count(&mut changes, &table);
+        changes::count(&mut changes, &table)
+            .map_err(|how| format!("{what}: {how}\n{}", hex::text(&table)))?;
     }
     if let Some(missing) = changes::missing(&changes, count).filter(|_| count >= ENOUGH) {
         return Err(format!(
@@ -289,6 +316,10 @@ fn run(seed: u64, count: u64) -> Result<String, String> {
     summary += &format!(
         "; {} have a mirror and are accepted, {} would come out otherwise with each mirror a NEW lock of its own",
         changes.mirrors, changes.by_mirrors
+    );
+    summary += &format!(
+        "; {} have a LOCK that is passed over by its lock and not by its name, {} came out otherwise before request #105, {} of them in the verdict",
+        changes.held_mirrors, changes.by_held_mirrors, changes.verdicts
     );
     Ok(summary)
 }

@@ -65,7 +65,7 @@ pub recorded-calls :
 recorded-calls R S (new x c) f π a b l w = recorded-calls R S c f (naming x x π) a b l w
 recorded-calls R S (lock x c d) f π a b l (inl w) = inl w
 recorded-calls R S (lock x c d) f π a b l (inr (inl w)) =
-    inr (inl (recorded-calls R S c (λ q a b l k. f q a b l (inl k)) (underLock x π) a b l w))
+    inr (inl (recorded-calls R S c (λ q a b l k. f q a b l (inl k)) (underLock (π .roots x) π) a b l w))
 recorded-calls R S (lock x c d) f π a b l (inr (inr w)) =
     inr (inr (recorded-calls R S d (λ q a b l k. f q a b l (inr k)) π a b l w))
 recorded-calls R S (fork i c d) f π a b l (inl w) =

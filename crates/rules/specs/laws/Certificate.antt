@@ -117,8 +117,8 @@ abbrev pub recordsOf : Program → List Entry → Code → Place → List Pair
 recordsOf P es end w = []
 recordsOf P es (new x c) w = recordsOf P es c (naming x x w)
 recordsOf P es (lock x c d) w =
-    only (not (in? x (w .nest))) (joined (w .holder) (some (w .roots x)) (w .thread))
-    ++ (recordsOf P es c (underLock x w) ++ recordsOf P es d w)
+    only (not (in? (w .roots x) (w .nest))) (joined (w .holder) (some (w .roots x)) (w .thread))
+    ++ (recordsOf P es c (underLock (w .roots x) w) ++ recordsOf P es d w)
 recordsOf P es (fork i c d) w = recordsOf P es c (underFork i w) ++ recordsOf P es d w
 recordsOf P es (choice u v c) w = recordsOf P es u w ++ (recordsOf P es v w ++ recordsOf P es c w)
 recordsOf P es (call q xs c) w = gather (taken P q (map (w .roots) xs) (w .thread) (w .holder)) es ++ recordsOf P es c w
@@ -169,8 +169,8 @@ module _ (P : Program) (es : List Entry) where
   is-recorded (lock x c d) w a b l =
       appended
       (changed (λ q. (q .0, q .1 .0, cc (q .1 .1), q .1 .2)) (λ q. (q .0, (q .1, ap some (sym (q .2)), q .3)))
-      (guarded (negated (is-in x (w .nest))) (is-joined (w .holder) (some (w .roots x)) (w .thread) a b l)))
-      (appended (is-recorded c (underLock x w) a b l) (is-recorded d w a b l))
+      (guarded (negated (is-in (w .roots x) (w .nest))) (is-joined (w .holder) (some (w .roots x)) (w .thread) a b l)))
+      (appended (is-recorded c (underLock (w .roots x) w) a b l) (is-recorded d w a b l))
   is-recorded (fork i c d) w a b l = appended (is-recorded c (underFork i w) a b l) (is-recorded d w a b l)
   is-recorded (choice u v c) w a b l =
       appended (is-recorded u w a b l) (appended (is-recorded v w a b l) (is-recorded c w a b l))

@@ -38,7 +38,7 @@ pub recorded-mono :
 recorded-mono R S f (new x c) w a b l q = recorded-mono R S f c (naming x x w) a b l q
 recorded-mono R S f (lock x c d) w a b l (inl q) = inl q
 recorded-mono R S f (lock x c d) w a b l (inr (inl q)) =
-    inr (inl (recorded-mono R S f c (underLock x w) a b l q))
+    inr (inl (recorded-mono R S f c (underLock (w .roots x) w) a b l q))
 recorded-mono R S f (lock x c d) w a b l (inr (inr q)) = inr (inr (recorded-mono R S f d w a b l q))
 recorded-mono R S f (fork i c d) w a b l (inl q) = inl (recorded-mono R S f c (underFork i w) a b l q)
 recorded-mono R S f (fork i c d) w a b l (inr q) = inr (recorded-mono R S f d w a b l q)
@@ -63,7 +63,7 @@ pub recorded-of-rows :
 recorded-of-rows P (new x c) w a b l q = in-new (recorded-of-rows P c (naming x x w) a b l q)
 recorded-of-rows P (lock x c d) w a b l (inl q) = at-lock (q .0) (q .1) (q .2) (q .3)
 recorded-of-rows P (lock x c d) w a b l (inr (inl q)) =
-    in-lock (recorded-of-rows P c (underLock x w) a b l q)
+    in-lock (recorded-of-rows P c (underLock (w .roots x) w) a b l q)
 recorded-of-rows P (lock x c d) w a b l (inr (inr q)) = after-lock (recorded-of-rows P d w a b l q)
 recorded-of-rows P (fork i c d) w a b l (inl q) = in-fork (recorded-of-rows P c (underFork i w) a b l q)
 recorded-of-rows P (fork i c d) w a b l (inr q) = after-fork (recorded-of-rows P d w a b l q)

@@ -1,4 +1,4 @@
--- The place inside a LOCK block: the one outside where the name is in the nest already. And what names give after a NEW
+-- The place inside a LOCK block: the one outside where the root is in the nest already. And what names give after a NEW
 -- or MIRROR.
 use mathlib.Core.Path.{_≡_, refl}
 use mathlib.Core.Logic.{_≢_}
@@ -19,13 +19,13 @@ is-in x ns = record { fact = λ t. in?-In x ns (yes-true (in? x ns) t); test = �
     yes-true : (b : Bool) → T b → b ≡ true
     yes-true true t = refl
 
--- the two cases of a LOCK: its name is in the nest already and the place inside is the one outside, or it is put there
+-- the two cases of a LOCK: its root is in the nest already and the place inside is the one outside, or it is put there
 pub by-nest :
-    (Q : Place → Type 0) (x : ℕ) (w : Place)
-    → (In x (w .nest) → Q w) → (¬ In x (w .nest) → Q (nested x w)) → Q (underLock x w)
-by-nest Q x w again first = go (in? x (w .nest)) (is-in x (w .nest))
+    (Q : Place → Type 0) (z : ℕ) (w : Place)
+    → (In z (w .nest) → Q w) → (¬ In z (w .nest) → Q (nested z w)) → Q (underLock z w)
+by-nest Q z w again first = go (in? z (w .nest)) (is-in z (w .nest))
   where
-    go : (b : Bool) → Decides b (In x (w .nest)) → Q (cond b w (nested x w))
+    go : (b : Bool) → Decides b (In z (w .nest)) → Q (cond b w (nested z w))
     go true d = again (d .fact tt)
     go false d = first (λ i. d .test i)
 

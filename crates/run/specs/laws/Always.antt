@@ -186,9 +186,8 @@ module _ (P : Program) where
       by = refl;
       inside = λ a b l w k. records w k;
       scoped = wf .scoped 0 (wf .some-routine);
-      fresh = wf .fresh 0 (wf .some-routine);
       stands = λ x i. absurd (rw (wf .main) at i);
-      kept = λ x i. absurd i;
+      kept = λ z i. absurd i;
       over = λ u i. absurd i;
       reach = λ q i. then reached-first i;
     }

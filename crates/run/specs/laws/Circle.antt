@@ -60,7 +60,7 @@ module _
       (t l m : ℕ) (A : Activation) (x : Thread) → Wants x l → Explained P H t A x
       → ((u : ℕ) → Holds x u → Holds (forms t) u) → Holds x m → Holds (forms t) l ⊎ Goes t m l
   to-wanted t l m A y (wants {x = x} {e = e} {fs = fs} q) w h i = subst (λ (z : ℕ). Holds (forms t) z ⊎ Goes t m z) q (
-      elim (decided (is-in x (w .0 .place .nest))) [
+      elim (decided (is-in (w .0 .place .roots x) (w .0 .place .nest))) [
         | yes k ↦ inl (h (e x) (held-already P (g .made-once) (w .0) k))
         | no n ↦ inr (along-path t (locks fs) h (to-lock P (g .made-once) (w .0) (w .3) n m i))
       ])

@@ -8,7 +8,7 @@ use mathlib.Core.List.{List, [], _∷_, _++_, map}
 use mathlib.Core.Option.{Option, some}
 use Prim.Native.Nat.{ℕ, _<_}
 use Rattle.table.specs.Program.{Code, Program, params}
-use Rattle.table.specs.WellFormed.{Scoped, Fresh, onces, In, NoDup}
+use Rattle.table.specs.WellFormed.{Scoped, onces, In, NoDup}
 use Rattle.rules.specs.Label.{Label, placed}
 use Rattle.rules.specs.Model.{Kept, renamed, Place, Recorded, Model, Row}
 use Rattle.rules.specs.Verdict.{Calls, Reached}
@@ -82,16 +82,16 @@ module _ (P : Program) where
     pub held : In lock ls
     pub path : Path H t ls lock u
 
-  -- thread t, which holds the locks ls, is or will be at the code, in the activation and with the names e
+  -- thread t, which holds the locks ls, is or will be at the code, in the activation and with the names e; a root in
+  -- the nest stands for a lock that it holds (kept)
   pub record Here (H : History) (t : ℕ) (A : Activation) (e : Env) (c : Code) (ls : List ℕ) : Type 0 where
     pub place : Place
     pub scope : List ℕ
     pub by : By H A (place .thread) t
     pub inside : Inside A place c
     pub scoped : Scoped P (params P (routine A)) scope c
-    pub fresh : Fresh scope c
     pub stands : (x : ℕ) → In x scope → Stands P H A (place .roots x) (e x)
-    pub kept : (x : ℕ) → In x (place .nest) → In x scope × In (e x) ls
+    pub kept : (z : ℕ) → In z (place .nest) → (u : ℕ) × Stands P H A z u × In u ls
     pub over : (u : ℕ) → In u ls → Over H t A (place .holder) ls u
     pub reach : (q : ℕ) → Calls c q → Reached P q
 
@@ -149,9 +149,8 @@ module _ (P : Program) {H K : History} (up : Longer H K) where
     by = By-up P up A (w .place .thread) t (w .by);
     inside = w .inside;
     scoped = w .scoped;
-    fresh = w .fresh;
     stands = λ x i. Stands-up P up A (w .place .roots x) (e x) (w .stands x i);
-    kept = w .kept;
+    kept = λ z i. let r = w .kept z i in (r .0, Stands-up P up A z (r .0) (r .1), r .2);
     over = λ u i. let r = w .over u i in record {
       name = r .name;
       lock = r .lock;

@@ -19,7 +19,7 @@ pub data StandsIn (P : Program) (r : ℕ) : Code → Place → List ℕ → Type
       → StandsIn P r c (naming x x w) (x ∷ s)
   in-lock : {x : ℕ} {c d : Code} {w : Place} {s : List ℕ}
       → StandsIn P r (lock x c d) w s
-      → StandsIn P r c (underLock x w) s
+      → StandsIn P r c (underLock (w .roots x) w) s
   after-lock : {x : ℕ} {c d : Code} {w : Place} {s : List ℕ}
       → StandsIn P r (lock x c d) w s
       → StandsIn P r d w s
@@ -189,7 +189,8 @@ module _ (P : Program) (wf : WellFormed P) where
         let f = made x (s .made) (m .place) (m .scope) e (h .1 .0) (m .one-lock) in
         to (at c (bind x (s .made) e) fs) (part m (after-new (m .stands)) f, ms)
     all-step k (at (lock x c d) e fs) (m, ms) =
-        let f = by-nest (λ v. OneLock v (m .scope) e) x (m .place) (λ i. m .one-lock) (λ n. m .one-lock) in
+        let z = m .place .roots x in
+        let f = by-nest (λ v. OneLock v (m .scope) e) z (m .place) (λ i. m .one-lock) (λ n. m .one-lock) in
         elim (taken? s t (e x))
         as (λ q. AllIn (elim q [ yes h ↦ s | no n ↦ put s t (at c e (frame (held (e x)) e d ∷ fs)) ])) [
           | yes h ↦ a

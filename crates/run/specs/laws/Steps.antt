@@ -27,7 +27,7 @@ use Rattle.run.specs.laws.Invariant.{Holds}
 use Rattle.run.specs.laws.Invariant.{Explained, Invariant}
 use Rattle.run.specs.laws.Change.{Fresh, Free, change}
 use Rattle.run.specs.laws.Places.{under-lawful, choice-first, choice-second, choice-rest, lock-rest, fork-rest}
-use Rattle.run.specs.laws.Places.{call-rest, lock-block, fork-block, mirror-rest, kept-on}
+use Rattle.run.specs.laws.Places.{call-rest, lock-block, fork-block, mirror-rest}
 
 -- an entry of a list, in the list of the values of f
 map-at :
@@ -180,10 +180,9 @@ module _
       by = w .by;
       inside = λ a b l r. w .inside a b l (in-new r);
       scoped = w .scoped .1;
-      fresh = w .fresh .1;
       stands = λ y i. by-bind (Stands P after-new A) x x (H .made) (w .place .roots) e y (λ p. made-here w)
           (λ ne. elim i [ inl p ↦ absurd (ne p) | inr j ↦ w .stands y j ]);
-      kept = kept-on P w x (H .made) (w .fresh .0);
+      kept = w .kept;
       over = w .over;
       reach = w .reach;
     }
@@ -359,9 +358,8 @@ module _
       by = refl;
       inside = λ a b l w k. records w k;
       scoped = wf .scoped r (site .scoped .0);
-      fresh = wf .fresh r (site .scoped .0);
       stands = call-stands;
-      kept = λ x i. absurd i;
+      kept = λ z i. absurd i;
       over = λ u i. let k = site .over u i in record {
         name = 0;
         lock = k .lock;

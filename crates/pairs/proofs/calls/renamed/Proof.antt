@@ -1,9 +1,8 @@
 -- `renamed` meets its contract: name 0 is the holder, and name i is the root of the i-th byte of the names.
 use mathlib.Core.Path.{ap, _∙_}
-use Prim.Native.Nat.{ℕ}
 use native.Mathlib.Omega.{arith}
 use borrow.Author.Needs.{needs}
-use Rattle.pairs.specs.Walks.{heldBy, rootOf}
+use Rattle.pairs.specs.Walks.{heldBy}
 use Rattle.pairs.specs.Gains.{rootsAt}
 use Rattle.pairs.proofs.Gaining.{renamed-first, renamed-none, renamed-name, byte-low}
 use Rattle.pairs.proofs.calls.renamed.Statement.{statement}
@@ -29,34 +28,21 @@ add-x c = search needs
 shared-slice-read-x : tie.Need-shared-slice-read-x
 shared-slice-read-x c = search needs
 
-size-requires : tie.Need-size-requires
-size-requires c κs = search needs
-
-element-copy-out-name : tie.Need-element-copy-out-name
-element-copy-out-name c =
-    let b = c .before .before .before .before .before in
+root-of-requires : tie.Need-root-of-requires
+root-of-requires c κs =
+    let b = c .before .before .before .before in
     let a = b .args in
-    let z = byte-low (a .s .now) (a .at) (a .k) (b .pre .0) (a .roots .now) (b .pre .1) (a .i) (omega arith)
-    (omega arith) in
-    search needs
+    byte-low (a .s .now) (a .at) (a .k) (b .pre .0) (a .roots .now) (b .pre .1) (a .i) (omega arith) (omega arith)
 
 returns-3 : tie.Need-returns-3
 returns-3 c =
-    let b = c .before .before .before .before .before .before in
+    let b = c .before .before .before .before .before in
     let a = b .args in
-    ap (λ (v : ℕ). heldBy (rootOf (a .roots .now) v)) (c .before .size .ensures .0)
+    ap heldBy (c .root-of .ensures)
     ∙ renamed-name (a .s .now) (a .at) (a .k) (b .pre .0) (a .roots .now) (heldBy (a .holder)) (b .pre .1) (a .i)
     (omega arith) (omega arith)
 
 pub renamed-spec : {M : Type 1} → statement M
 renamed-spec =
     tie.close
-    (tie.spec
-    returns
-    returns-2
-    sub-x
-    add-x
-    shared-slice-read-x
-    size-requires
-    element-copy-out-name
-    returns-3)
+    (tie.spec returns returns-2 sub-x add-x shared-slice-read-x root-of-requires returns-3)

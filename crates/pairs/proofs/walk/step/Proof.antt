@@ -9,10 +9,10 @@ use Rattle.pairs.specs.Walks.{Walk, walkOf, byteOf, holderOf, nestOf, ho
 use Rattle.pairs.proofs.Steps.{by-byte, by-rest, past-byte, top-byte, ready-pass, ready-level}
 use Rattle.pairs.proofs.walk.past.Reads as past-reads
 use Rattle.pairs.proofs.walk.level.Reads as level-reads
-use Rattle.pairs.proofs.walk.with_name.Reads as with-name-reads
+use Rattle.pairs.proofs.walk.with_root.Reads as with-root-reads
 use Rattle.pairs.proofs.walk.entered.Reads as entered-reads
 use Rattle.pairs.proofs.walk.with_local.Reads as with-local-reads
-use Rattle.table.proofs.scope.size.Reads as size-reads
+use Rattle.pairs.proofs.walk.root_of.Reads as root-of-reads
 use Rattle.pairs.proofs.walk.step.Statement.{statement}
 use Rattle.pairs.proofs.walk.step.Tie as tie
 use Rattle.pairs.proofs.walk.step.Reads as reads
@@ -30,14 +30,14 @@ AtLevel = lts.After-level (
   past-reads.Learnt,
   level-reads.Asked,
   level-reads.Learnt,
-  with-name-reads.Asked,
-  with-name-reads.Learnt,
+  root-of-reads.Asked,
+  root-of-reads.Learnt,
+  with-root-reads.Asked,
+  with-root-reads.Learnt,
   entered-reads.Asked,
   entered-reads.Learnt,
   with-local-reads.Asked,
   with-local-reads.Learnt,
-  size-reads.Asked,
-  size-reads.Learnt,
 ) reads.Pre reads.Post
 
 -- the sections there, and the walk before the item
@@ -86,19 +86,25 @@ level-requires c κs =
     ready-level (a .ks .now) (a .s .now)
     (walkOf (a .p) (a .holders .now) (a .threads .now) (a .nests .now) (a .roots .now)) (b .pre .0)
 
-add-with-name : tie.Need-add-with-name
-add-with-name c = search needs
+add-x : tie.Need-add-x
+add-x c = search needs
 
-shared-slice-read-with-name : tie.Need-shared-slice-read-with-name
-shared-slice-read-with-name c =
-    let k = ready-at (c .before .before) .room LOCK (c .before .match .keys1) in search needs
+shared-slice-read-x : tie.Need-shared-slice-read-x
+shared-slice-read-x c = let k = ready-at (c .before .before) .room LOCK (c .before .match .keys1) in search needs
 
-with-name-requires : tie.Need-with-name-requires
-with-name-requires c κs = ready-at (c .before .before) .names LOCK (c .before .match .keys1)
+root-of-requires : tie.Need-root-of-requires
+root-of-requires c κs =
+    let lock-met = c .before .before in ready-at (lock-met .before) .names LOCK (lock-met .match .keys1) .0
+
+with-root-requires : tie.Need-with-root-requires
+with-root-requires c κs =
+    let lock-met = c .before .before .before in
+    rw (c .root-of .ensures) (ready-at (lock-met .before) .names LOCK (lock-met .match .keys1) .1)
 
 entered-requires : tie.Need-entered-requires
 entered-requires c κs =
-    let lock-met = c .before .before .before .before .before in
+    let rooted = c .before .before .before .before in
+    let lock-met = rooted .before .before .before in
     let l = lock-met .before in
     let e = lock-met .match .keys1 in
     let k = ready-at l .room LOCK e in
@@ -140,12 +146,9 @@ shared-slice-read-y : tie.Need-shared-slice-read-y
 shared-slice-read-y c =
     let k = ready-at (c .before .before) .room MIRROR (c .before .match .keys5) in search needs
 
-size-requires : tie.Need-size-requires
-size-requires c κs = search needs
-
-element-copy-out-root : tie.Need-element-copy-out-root
-element-copy-out-root c =
-    let k = ready-at (c .before .before .before) .names MIRROR (c .before .before .match .keys5) in search needs
+root-of-requires-2 : tie.Need-root-of-requires-2
+root-of-requires-2 c κs =
+    let mirror-met = c .before .before in ready-at (mirror-met .before) .names MIRROR (mirror-met .match .keys5) .0
 
 with-local-requires-2 : tie.Need-with-local-requires-2
 with-local-requires-2 c κs =
@@ -154,13 +157,15 @@ with-local-requires-2 c κs =
 
 returns : tie.Need-returns
 returns c =
-    let named-met = c .before .before .before .before in
-    let lock-met = named-met .before .before in
+    let nest-met = c .before .before .before .before in
+    let rooted = nest-met .before in
+    let lock-met = rooted .before .before .before in
     let l = lock-met .before in
     let a = l .before .before .before .before .before .args in
     let e = lock-met .match .keys1 in
     let i = inside-byte (bytes-at l) (walk-at l) (a .inside) (a .thread) (a .nest) 2 (given-at l) e in
-    (rw (past-at l 2 e, top-at l 2 e, named-met .with-name .ensures, given-at l .thread, given-at l .nest, i)
+    let m = nest-met .with-root .ensures in
+    (rw (past-at l 2 e, top-at l 2 e, m, rooted .root-of .ensures, given-at l .thread, given-at l .nest, i)
     at (c .entered .ensures (a .roots .now)))
     ∙ sym (by-byte (counts-at l) (bytes-at l) (walk-at l) 2 e)
 
@@ -195,12 +200,12 @@ returns-4 c =
 
 returns-5 : tie.Need-returns-5
 returns-5 c =
-    let sized = c .before .before .before in
-    let mirror-met = sized .before .before in
+    let rooted = c .before .before in
+    let mirror-met = rooted .before .before .before in
     let l = mirror-met .before in
     let a = l .before .before .before .before .before .args in
     let e = mirror-met .match .keys5 in
-    (rw (past-at l 7 e, top-at l 7 e, sized .size .ensures .0)
+    (rw (past-at l 7 e, top-at l 7 e, rooted .root-of2 .ensures)
     at (c .with-local2 .ensures (a .holders .now) (a .threads .now) (a .nests .now)))
     ∙ sym (by-byte (counts-at l) (bytes-at l) (walk-at l) 7 e)
 
@@ -220,9 +225,10 @@ step-spec =
     shared-slice-read-b
     past-requires
     level-requires
-    add-with-name
-    shared-slice-read-with-name
-    with-name-requires
+    add-x
+    shared-slice-read-x
+    root-of-requires
+    with-root-requires
     entered-requires
     add-entered
     add-entered-2
@@ -232,8 +238,7 @@ step-spec =
     with-local-requires
     add-y
     shared-slice-read-y
-    size-requires
-    element-copy-out-root
+    root-of-requires-2
     with-local-requires-2
     returns
     returns-2
