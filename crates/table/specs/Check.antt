@@ -44,6 +44,10 @@ past w c = record { own = w .own; scope = w .scope; made = w .made + locals c; s
 abbrev pub starting : Place → Place
 starting w = record { own = w .own; scope = w .scope; made = w .made; started = w .started + 1 }
 
+-- the name of the next local: they are numbered above the parameters
+abbrev pub nextLocal : Place → ℕ
+nextLocal w = w .own + w .made + 1
+
 -- the place after a NEW or MIRROR that gives the local x
 abbrev pub adding : Place → ℕ → Place
 adding w x = record { own = w .own; scope = x ∷ w .scope; made = w .made + 1; started = w .started }
@@ -106,13 +110,13 @@ callItem ks w (r ∷ l) =
 -- MIRROR, after its code: the name that it mirrors
 abbrev pub mirrorItem : Place → List ℕ → Head
 mirrorItem w [] = wrong 13
-mirrorItem w (y ∷ l) = cond (in? y (w .scope)) (more (aMirror (w .own + w .made + 1) y) l) (wrong 13)
+mirrorItem w (y ∷ l) = cond (in? y (w .scope)) (more (aMirror (nextLocal w) y) l) (wrong 13)
 
 -- an item after its code, of each kind; its blocks are read by `read`
 abbrev pub itemOf : Reader → List ℕ → ℕ → Bool → Place → Op → List ℕ → Head
 itemOf read ks d first w END l = cond first (wrong 9) (closed l)
 itemOf read ks d first w NEW l =
-    cond (leb most-locals (w .made)) (wrong 11) (more (aNew (w .own + w .made + 1)) l)
+    cond (leb most-locals (w .made)) (wrong 11) (more (aNew (nextLocal w)) l)
 itemOf read ks d first w LOCK l = cond (eqb d 0) (wrong 10) (lockItem read d w l)
 itemOf read ks d first w FORK l =
     cond (eqb d 0) (wrong 10)

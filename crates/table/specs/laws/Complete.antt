@@ -16,7 +16,7 @@ use Rattle.table.specs.Program.{params}
 use Rattle.table.specs.WellFormed.{In}
 use Rattle.table.specs.Encoding.{encode, encodeBodies, counts, twoBytes, encodeTable, Fits, WithinLimits}
 use Rattle.table.specs.Check.{Item, aNew, aLock, aFork, aChoice, aCall, aMirror, then, Place, past, starting}
-use Rattle.table.specs.Check.{ok, more, in?, named}
+use Rattle.table.specs.Check.{nextLocal, ok, more, in?, named}
 use Rattle.table.specs.Check.{after, joined, goOn, block, item, atHead}
 use Rattle.table.specs.Check.{accepted, bodies, small?, sections, checkTable}
 use Rattle.table.specs.laws.Sound.{closing, Stands, Each, Sits, counts-length, counts-params}
@@ -40,7 +40,7 @@ module _ (ks : List ℕ) (d : ℕ) (first : Bool) (w : Place) where
       ≡ ok c u → block ks d first w l ≡ ok (then i c) u
   by-item l t u i c e h = block-step ks d first w l ∙ ap (goOn (block ks) d first w) e ∙ ap (joined i) h
 
-  new-item : (l : List ℕ) → w .made < most-locals → item ks d first w (1 ∷ l) ≡ more (aNew (w .own + w .made + 1)) l
+  new-item : (l : List ℕ) → w .made < most-locals → item ks d first w (1 ∷ l) ≡ more (aNew (nextLocal w)) l
   new-item l lt = rw (lt-leb most-locals (w .made) lt)
 
   lock-item : (x : ℕ) (l t : List ℕ) (c : Code) → (d ≡ 0 → ⊥) → In x (w .scope) → block ks (d - 1) false w l
@@ -68,7 +68,7 @@ module _ (ks : List ℕ) (d : ℕ) (first : Bool) (w : Place) where
   )
 
   mirror-item : (y : ℕ) (l : List ℕ) → w .made < most-locals → In y (w .scope)
-      → item ks d first w (7 ∷ y ∷ l) ≡ more (aMirror (w .own + w .made + 1) y) l
+      → item ks d first w (7 ∷ y ∷ l) ≡ more (aMirror (nextLocal w) y) l
   mirror-item y l lt i = rw (lt-leb most-locals (w .made) lt, In-in? y (w .scope) i)
 
 pub block-complete : (P : Program) (c : Code) (d : ℕ) (first : Bool) (w : Place) (t : List ℕ) → Stands P d w c
@@ -76,7 +76,7 @@ pub block-complete : (P : Program) (c : Code) (d : ℕ) (first : Bool) (w : Plac
 block-complete P end d true w t s = block-step (counts P) d true w (5 ∷ t)
 block-complete P end d false w t s = block-step (counts P) d false w (0 ∷ t)
 block-complete P (new x c) d first w t s =
-    let e : w .own + w .made + 1 ≡ x = sym (s .numbered .0) in
+    let e : nextLocal w ≡ x = sym (s .numbered .0) in
     let s′ : Stands P d (after w (aNew x)) c = record {
       scoped = s .scoped .1;
       numbered = s .numbered .1;
@@ -183,7 +183,7 @@ block-complete P (call r xs c) d first w t s =
     (s .scoped .1) (s .scoped .2))
     (block-complete P c d first w t s′))
 block-complete P (mirror x y c) d first w t s =
-    let e : w .own + w .made + 1 ≡ x = sym (s .numbered .0) in
+    let e : nextLocal w ≡ x = sym (s .numbered .0) in
     let s′ : Stands P d (after w (aMirror x y)) c = record {
       scoped = s .scoped .2;
       numbered = s .numbered .1;

@@ -20,7 +20,7 @@ use Rattle.table.specs.Check.{Item, aNew, aLock, aFork, aChoice, then, P
 use Rattle.table.specs.Check.{Block, ok, bad, Head, more, closed, wrong, Reader, opened, in?, named, lockItem}
 use Rattle.table.specs.Check.{after, callItem, mirrorItem, itemBy, joined, goOn, blockBy, block, atHead}
 use Rattle.table.specs.Check.{Outcome, refused, accepted, withRoutine, bodyThen, bodies, small?, sections}
-use Rattle.table.specs.Check.{checkTable}
+use Rattle.table.specs.Check.{nextLocal, checkTable}
 use Rattle.table.specs.laws.Cases.{cond-cases, and-left, and-right, or-false-left, or-false-right}
 
 -- the kind of item that closes a block
@@ -111,7 +111,7 @@ module _ (P : Program) where
     goOn-right read hr (wrong e) h = tt
 
   module _ (read : Reader) (hr : Right read) (d : ℕ) (first : Bool) (w : Place) where
-    new-right : (l : List ℕ) → w .made < most-locals → RightH d first w (1 ∷ l) (more (aNew (w .own + w .made + 1)) l)
+    new-right : (l : List ℕ) → w .made < most-locals → RightH d first w (1 ∷ l) (more (aNew (nextLocal w)) l)
     new-right l lt c u e s = (
       ap (λ (v : List ℕ). 1 ∷ v) e,
       record {
