@@ -1,5 +1,5 @@
-/* The ground of each refusal in a few words, by its number; docs/FORMAT.md has each in full. ./vangpear reads these
- * lines too. C11, usable from C++. */
+/* The ground of each refusal in a few words, by its number; docs/FORMAT.md has each in full. 16 and 17 are of running a
+ * schedule alone. ./vangpear reads these lines too. C11, usable from C++. */
 #ifndef VANGPEAR_REFUSALS_H
 #define VANGPEAR_REFUSALS_H
 
@@ -20,6 +20,8 @@ static const char *const vangpear_refusals[] = {
     /* 13 */ "a LOCK, CALL or MIRROR lacks a name, or uses one that means no lock at that place",
     /* 14 */ "there are bytes left over behind the last body",
     /* 15 */ "the model buffer is too short: it takes 65 bytes for each routine",
+    /* 16 */ "a byte of the schedule names a thread that was not started",
+    /* 17 */ "there is no record for a thread (at most 16), no room for a lock (64), or for an open block or call (64)",
 };
 
 #endif

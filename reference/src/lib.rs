@@ -1,17 +1,19 @@
-//! A second analyser of handler tables, written from document 01 and requests #101,
-//! #102, #104 and #105 of document 02, the customer's papers, apart from what is under
-//! test; docs/FORMAT.md is our page on the same format.
+//! A second analyser and runner of handler tables, written from document 01 and requests
+//! #101, #102 and #104 to #106 of document 02, the customer's papers, apart from what is
+//! under test; docs/FORMAT.md is our page on the same format.
 //!
 //! It is kept plain, to be compared against, not to be fast:
 //! `table` reads and refuses, `model` works out pairs, rows, the verdict and the
 //! share, `listing` is the program's text. `cases` and `generate` give tables to try,
 //! `frames` puts many of them into one input. `small` has all small tables of some
-//! families, and what request #105 moves in them. `fast` and `groups` are there for the
-//! benchmark alone, and `archive` calls what is under test.
+//! families, and what request #105 moves in them. `runner` runs a table under a schedule,
+//! `desk` is the text of that, and `schedules` gives inputs to try. `fast` and `groups` are
+//! there for the benchmark alone, and `archive` calls what is under test.
 
 #[cfg(feature = "archive")]
 pub mod archive;
 pub mod cases;
+pub mod desk;
 pub mod fast;
 pub mod frames;
 pub mod generate;
@@ -20,6 +22,8 @@ pub mod hex;
 pub mod limits;
 mod listing;
 pub mod model;
+pub mod runner;
+pub mod schedules;
 pub mod small;
 pub mod table;
 

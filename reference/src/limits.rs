@@ -1,4 +1,4 @@
-//! Every number that docs/FORMAT.md fixes, in one place.
+//! Every number that docs/FORMAT.md and request #106 fix, in one place.
 
 /// Most routines in a table.
 pub const MAX_ROUTINES: usize = 64;
@@ -40,6 +40,17 @@ pub const RING_BASE: u32 = 65_536;
 pub const RING_ROUTINE: u32 = 1_024;
 pub const RING_NAME: u32 = 32;
 
+/// Most threads that a run starts.
+pub const MAX_THREADS: usize = 16;
+/// Most locks that a run makes.
+pub const MAX_RUN_LOCKS: usize = 64;
+/// Most blocks and calls that a thread of a run has open.
+pub const MAX_RUN_OPEN: usize = 64;
+/// The lowest schedule byte that goes into a second alternative.
+pub const SECOND_FROM: u8 = 128;
+/// Most schedule bytes that the program `desk` reads.
+pub const MAX_SCHEDULE: usize = 65_536;
+
 /// Item codes.
 pub mod code {
     pub const END: u8 = 0;
@@ -71,4 +82,6 @@ pub mod refusal {
     pub const BAD_NAME: u32 = 13;
     pub const BYTES_LEFT: u32 = 14;
     pub const SHORT_BUFFER: u32 = 15;
+    pub const UNSTARTED: u32 = 16;
+    pub const BEYOND: u32 = 17;
 }

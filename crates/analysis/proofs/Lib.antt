@@ -8,7 +8,6 @@ mod BodyLaws
 mod LoopLaws
 mod SurveyLaws
 mod WorkLaws
-mod TableLaws
 mod VerdictLaws
 mod AnalyseLaws
 mod NumberLaws

@@ -20,7 +20,8 @@ use Rattle.rows.specs.laws.Cells.{no-label}
 use Rattle.table.specs.Constants.{row-bytes}
 use Rattle.analysis.specs.laws.Due.{All}
 use Rattle.analysis.specs.laws.Settle.{Partly, Fresh}
-use Rattle.analysis.specs.laws.Bodies.{Holds, Linked, BodyOf, RowReady, Improves}
+use Rattle.table.specs.laws.Sections.{Holds}
+use Rattle.analysis.specs.laws.Bodies.{Linked, BodyOf, RowReady, Improves}
 use Rattle.analysis.specs.laws.Bodies.{Started, Settles, CanSettle, Settled}
 use Rattle.analysis.proofs.MaskLaws.{bit-within, less-bit}
 use Rattle.analysis.proofs.SettleLaws.{improved-partly}

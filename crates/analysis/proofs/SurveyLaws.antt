@@ -13,10 +13,11 @@ use Rattle.table.specs.Encoding.{encode, encodeBodies}
 use Rattle.table.specs.laws.Sound.{counts-params}
 use Rattle.rules.specs.Verdict.{Calls}
 use Rattle.grid.specs.Rows.{Has}
-use Rattle.pairs.specs.Fine.{Fine, IsBody}
+use Rattle.table.specs.laws.Fine.{Fine, IsBody}
 use Rattle.pairs.specs.Contracts.{Scans}
-use Rattle.pairs.specs.laws.Within.{fine}
-use Rattle.analysis.specs.laws.Bodies.{startOf, Holds, Held, Surveyed, Surveys}
+use Rattle.table.specs.laws.Within.{fine}
+use Rattle.table.specs.laws.Sections.{Holds, Held}
+use Rattle.analysis.specs.laws.Bodies.{startOf, Surveyed, Surveys}
 use Rattle.analysis.proofs.BodyLaws.{body-at, start-next}
 use Rattle.analysis.proofs.LoopLaws.{routines}
 

@@ -18,7 +18,7 @@ use Rattle.grid.specs.Grid.{Pair, Small, AllKept, Empty, Closure, LowestRing}
 use Rattle.grid.specs.laws.Masks.{has-zero}
 use Rattle.rows.specs.Model.{RowBits}
 use Rattle.rows.specs.laws.Fixpoint.{KeptFrom, closed-mono, recorded-calls}
-use Rattle.pairs.specs.Fine.{IsBody}
+use Rattle.table.specs.laws.Fine.{IsBody}
 use Rattle.pairs.specs.Gains.{Gains}
 use Rattle.pairs.specs.Contracts.{Records}
 use Rattle.analysis.specs.laws.Settle.{RowsOf, GridOf, Named}

@@ -2,7 +2,8 @@
 ghost use mathlib.Core.Path.{_≡_};
 ghost use lib.ListN.{length};
 ghost use Rattle.table.specs.Constants.{most-routines};
-ghost use Rattle.analysis.specs.laws.Bodies.{Held, Surveys};
+ghost use Rattle.table.specs.laws.Sections.{Held};
+ghost use Rattle.analysis.specs.laws.Bodies.{Surveys};
 use pairs::Scanned;
 use pairs::scan;
 use table::limits::MOST_ROUTINES;

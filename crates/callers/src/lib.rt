@@ -5,11 +5,23 @@ ghost use Rattle.table.specs.Check.{checkTable};
 ghost use Rattle.table.specs.Answer.{checkNumber, checkedOf};
 ghost use Rattle.analysis.specs.Answer.{Analysed, AnalysedAs, Fits};
 ghost use Rattle.listing.specs.Text.{Listed};
+ghost use Rattle.runner.specs.Answer.{Runs, Reports};
+ghost use Rattle.runner.specs.Desk.{RunsFresh};
+ghost use Rattle.callers.specs.Calls.{clear?, stuck?};
+ghost use mathlib.Core.Bool.{false};
 use analysis::Answer;
+use analysis::Verdict;
 use analysis::analyse;
 use analysis::vangpear_analyse;
 use analysis::vangpear_check;
 use listing::list;
+use runner::Desk;
+use runner::Ran;
+use runner::Report;
+use runner::run_fresh;
+use runner::run_schedule;
+use runner::vangpear_run;
+use steps::thread::Thread;
 use table::Checked;
 use table::check;
 
@@ -49,4 +61,64 @@ pub fn analysed_for_c(table: &[u8], model: &mut [u8]) -> u32
     ensures { λ r. ⌜ AnalysedAs (now (table .entry)) (now (model .entry)) (now (model .exit)) r ⌝ }
 {
     vangpear_analyse(table, model)
+}
+
+// Calls `run_fresh`, which lends records to `run_schedule`.
+pub fn ran(table: &[u8], schedule: &[u8], n: usize) -> Desk
+    ensures { λ r. ⌜ RunsFresh (checkTable (now (table .entry))) (now (schedule .entry)) n r ⌝ }
+{
+    run_fresh(table, schedule, n)
+}
+
+// Calls `run_schedule`.
+pub fn ran_schedule(table: &[u8], schedule: &[u8], records: &mut [Thread]) -> Ran
+    ensures { λ r. ⌜ Runs (checkTable (now (table .entry))) (now (schedule .entry)) (now (records .entry))
+        (now (records .exit)) r ⌝ }
+{
+    run_schedule(table, schedule, records)
+}
+
+// Calls `vangpear_run`.
+pub fn ran_for_c(table: &[u8], schedule: &[u8], records: &mut [Thread]) -> Report
+    ensures { λ r. ⌜ Reports (checkTable (now (table .entry))) (now (schedule .entry)) (now (records .entry))
+        (now (records .exit)) r ⌝ }
+{
+    vangpear_run(table, schedule, records)
+}
+
+// Whether an answer is that the table is clear.
+fn is_clear(a: Answer) -> bool
+    ensures { λ r. ⌜ r ≡ clear? a ⌝ }
+{
+    match a {
+        Answer::Refused(_) => false,
+        Answer::Judged(v, _) => match v {
+            Verdict::Clear => true,
+            Verdict::Ring(_) => false,
+        },
+    }
+}
+
+// Whether an answer is that the run is stuck.
+fn is_stuck(r: Ran) -> bool
+    ensures { λ q. ⌜ q ≡ stuck? r ⌝ }
+{
+    match r {
+        Ran::Refused(_) => false,
+        Ran::Ended(_) => false,
+        Ran::Stuck(_) => true,
+        Ran::Open(_) => false,
+        Ran::Unstarted(_) => false,
+        Ran::Beyond(_) => false,
+    }
+}
+
+// Whether a table that the analysis calls clear is answered stuck under some schedule: never.
+pub fn clear_but_stuck(table: &[u8], model: &mut [u8], schedule: &[u8], n: usize) -> bool
+    ensures { λ r. ⌜ r ≡ false ⌝ }
+{
+    let clear = is_clear(analyse(table, model));
+    let d = run_fresh(table, schedule, n);
+    let ran = d.ran;
+    if clear { is_stuck(ran) } else { false }
 }

@@ -16,7 +16,7 @@ use Rattle.rules.specs.Number.{labelOf}
 use Rattle.rules.specs.Verdict.{Calls}
 use Rattle.rules.specs.laws.Satisfies.{Pairs, RecordedFrom}
 use Rattle.grid.specs.Rows.{Bits}
-use Rattle.pairs.specs.Fine.{Calling, Uses}
+use Rattle.table.specs.laws.Fine.{Calling, Uses}
 use Rattle.pairs.specs.Walks.{heldBy, rootOf}
 use Rattle.pairs.specs.Gains.{CallGives}
 

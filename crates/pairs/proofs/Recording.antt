@@ -18,7 +18,7 @@ use Rattle.rules.specs.Model.{Kept, Place, atHead}
 use Rattle.rules.specs.laws.Satisfies.{Pairs, RecordedFrom}
 use Rattle.grid.specs.Rows.{Has}
 use Rattle.grid.specs.Grid.{Pair, Small, AllKept}
-use Rattle.pairs.specs.Fine.{Fine, IsBody}
+use Rattle.table.specs.laws.Fine.{Fine, IsBody}
 use Rattle.pairs.specs.Walks.{Walk, Ready, heldBy, byteOf, argOf, holderOf, threadOf, nestOf, rootOf, Selves}
 use Rattle.pairs.specs.Walks.{holderUnder, holderInside, startWalk, movedWalk, nextWalk, LockReady}
 use Rattle.pairs.specs.Gains.{Gains, HoldersGive, CallGives, Low, LowAt, namesAt, rootsAt, CallReady}

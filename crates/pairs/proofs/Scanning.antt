@@ -18,7 +18,7 @@ use Rattle.rules.specs.Model.{atHead}
 use Rattle.rules.specs.Verdict.{Calls}
 use Rattle.grid.specs.Rows.{Has, Bits}
 use Rattle.grid.specs.laws.Masks.{has-zero, has-pow, pow-has, bits-self, bits-map}
-use Rattle.pairs.specs.Fine.{Fine, IsBody}
+use Rattle.table.specs.laws.Fine.{Fine, IsBody}
 use Rattle.pairs.specs.Walks.{IsOver, Passable, LevelReady, pastItem, topBy}
 use Rattle.pairs.proofs.Pending.{Level, level, past, Left, InLeft, AtItem, CallIn, CallAt}
 use Rattle.pairs.specs.Contracts.{Scans}

@@ -17,7 +17,7 @@ use Rattle.table.specs.Encoding.{encode}
 use Rattle.rules.specs.Label.{Label}
 use Rattle.rules.specs.Model.{Place, atHead}
 use Rattle.rules.specs.laws.Satisfies.{Pairs}
-use Rattle.pairs.specs.Fine.{Fine}
+use Rattle.table.specs.laws.Fine.{Fine}
 use Rattle.pairs.specs.Walks.{Walk, byteOf, RoomAt, Ready, passedBy, walkBy, nextWalk, pastBy, pastItem, topBy}
 use Rattle.pairs.specs.Walks.{Passable, LevelReady}
 use Rattle.pairs.proofs.Pending.{Alternative, other, Level, level, bytes, itemBytes, past, Levels, Left}

@@ -22,7 +22,7 @@ use Rattle.rules.specs.laws.Number.{label-of-number}
 use Rattle.rules.specs.laws.Nest.{by-nest, by-bind}
 use Rattle.grid.specs.Rows.{Has, Bits}
 use Rattle.grid.specs.laws.Masks.{bits-zero, bits-or, bits-one, bits-map}
-use Rattle.pairs.specs.Fine.{Uses, Fine}
+use Rattle.table.specs.laws.Fine.{Uses, Fine}
 use Rattle.pairs.specs.Walks.{Walk, heldBy, byteOf, argOf, holderOf, threadOf, nestOf, inNest, withRoot, rootOf}
 use Rattle.pairs.specs.Walks.{SelvesTo, Selves, holderUnder, startWalk, movedWalk, enteredWalk, localWalk}
 use Rattle.pairs.specs.Walks.{nextWalk, NamesFit, Ready}

@@ -10,7 +10,7 @@ use Rattle.rules.specs.Verdict.{Calls}
 use Rattle.rules.specs.Model.{atHead}
 use Rattle.rules.specs.laws.Satisfies.{RecordedFrom}
 use Rattle.grid.specs.Rows.{Has}
-use Rattle.pairs.specs.Fine.{Fine}
+use Rattle.table.specs.laws.Fine.{Fine}
 use Rattle.pairs.specs.Gains.{Gains}
 use Rattle.rows.specs.Model.{RowBits}
 

@@ -6,7 +6,7 @@ ghost use lib.ListN.{length};
 ghost use Rattle.table.specs.Constants.{most-routines, row-bytes};
 ghost use Rattle.grid.specs.Rows.{Has, Bits};
 ghost use Rattle.grid.specs.Grid.{Small};
-ghost use Rattle.pairs.specs.Fine.{IsBody};
+ghost use Rattle.table.specs.laws.Fine.{IsBody};
 ghost use Rattle.pairs.specs.Contracts.{Scans, Records};
 
 mod calls;

@@ -10,3 +10,6 @@ pub mod Complete
 pub mod Formed
 pub mod Items
 pub mod Accepts
+pub mod Fine
+pub mod Within
+pub mod Sections

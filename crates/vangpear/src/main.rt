@@ -1,7 +1,6 @@
 // Judges the handler table on standard input and writes its listing. Everything that matters is in the libraries.
-ghost use Rattle.io.specs.Counts.{Counts};
+use input::read_input;
 use libc::STDERR_FILENO;
-use libc::STDIN_FILENO;
 use libc::STDOUT_FILENO;
 use listing::LONGEST;
 use table::limits::MOST_BYTES;
@@ -14,34 +13,6 @@ const READ_LIMIT: usize = 3 + MOST_ROUTINES + MOST_BYTES + 1;
 
 // The rows of as many routines as a table can have.
 const MODEL_BYTES: usize = ROW_BYTES * MOST_ROUTINES;
-
-// What standard input gave: how many bytes were read, and whether a read failed.
-struct Input {
-    size: usize,
-    failed: bool,
-}
-
-// Reads standard input until the buffer is full, the input ends or a read fails.
-fn read_input(buf: &mut [u8]) -> Input
-    ensures { λ r. ⌜ Counts (r .size) (now (buf .exit)) ⌝ }
-{
-    let mut done: usize = 0;
-    while done < buf.len() {
-        let got = libc::read(STDIN_FILENO, &mut buf[done..]);
-        let more = io::count(got, &buf[done..]);
-        if more == 0 {
-            return Input {
-                size: done,
-                failed: got < 0,
-            };
-        }
-        done += more;
-    }
-    Input {
-        size: done,
-        failed: false,
-    }
-}
 
 // Writes the listing of a table, or says that there is no writing it.
 fn judge(table: &[u8]) {

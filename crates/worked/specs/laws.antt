@@ -2,3 +2,4 @@
 pub mod Proved
 pub mod Answered
 pub mod Promised
+pub mod Scheduled

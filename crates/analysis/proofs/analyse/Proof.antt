@@ -6,7 +6,7 @@ use Rattle.table.specs.laws.Accepts.{refused-of}
 use Rattle.table.specs.laws.Refusals.{refusals}
 use Rattle.table.proofs.check.Reads as check-reads
 use Rattle.analysis.proofs.judge.Reads as judge-reads
-use Rattle.analysis.proofs.TableLaws.{AcceptedAs, accepted-as}
+use Rattle.table.specs.laws.Sections.{AcceptedAs, accepted-as}
 use Rattle.analysis.proofs.AnalyseLaws.{refused-by-check, refused-for-buffer, judged-as}
 use borrow.Author.Needs.{needs}
 use Rattle.analysis.proofs.analyse.Statement.{statement}

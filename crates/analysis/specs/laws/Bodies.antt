@@ -6,7 +6,8 @@ use Prim.Native.Nat.{ℕ, zero, suc, _+_, _*_, _≤_, _<_}
 use lib.ListN.{length, getD, take}
 use Rattle.table.specs.Constants.{END}
 use Rattle.table.specs.Program.{Program, body}
-use Rattle.table.specs.Encoding.{encode, encodeBodies, counts, WithinLimits}
+use Rattle.table.specs.Encoding.{encode}
+use Rattle.table.specs.laws.Sections.{Holds}
 use Rattle.rules.specs.Verdict.{Calls}
 use Rattle.grid.specs.Rows.{Has}
 use Rattle.rows.specs.Model.{ShapedRow}
@@ -22,16 +23,6 @@ abbrev pub startOf : Program → ℕ → ℕ
 startOf [] r = 0
 startOf (q ∷ P) zero = 0
 startOf (q ∷ P) (suc r) = length (encode END (q .code)) + startOf P r
-
--- the parameter counts and the section of a table that holds P
-pub record Holds (P : Program) (ks s : List ℕ) : Type 0 where
-  pub params-are : ks ≡ counts P
-  pub bytes-are : s ≡ encodeBodies P
-  pub limits : WithinLimits P
-
--- some program is held
-abbrev pub Held : List ℕ → List ℕ → Type 0
-Held ks s = (P : Program) × Holds P ks s
 
 -- the body of routine r of P starts at the offset
 pub record BodyOf (P : Program) (ks s : List ℕ) (at r : ℕ) : Type 0 where

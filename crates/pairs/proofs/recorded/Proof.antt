@@ -7,7 +7,7 @@ use lib.ListN.{length}
 use borrow.Author.Needs.{needs}
 use Rattle.grid.specs.Grid.{Square}
 use Rattle.grid.specs.laws.Square.{square-of}
-use Rattle.pairs.specs.Fine.{IsBody}
+use Rattle.table.specs.laws.Fine.{IsBody}
 use Rattle.pairs.specs.Walks.{Walk, walkOf}
 use Rattle.pairs.proofs.Recording.{Recording, record-start, record-there, record-entries, record-ready}
 use Rattle.pairs.proofs.Recording.{record-lock-ready, record-thread, record-call-ready, record-lock}

@@ -4,7 +4,7 @@ use Prim.Native.Nat.{ℕ, _-_, _≤_}
 use native.Mathlib.Omega.{arith}
 use lib.ListN.{length}
 use borrow.Author.Needs.{needs}
-use Rattle.pairs.specs.Fine.{IsBody}
+use Rattle.table.specs.laws.Fine.{IsBody}
 use Rattle.pairs.proofs.Scanning.{Scanning, scan-start, scan-there, scan-pass, scan-level, scan-less, scan-call}
 use Rattle.pairs.proofs.Scanning.{scan-other, scan-end}
 use Rattle.pairs.proofs.walk.over.Reads as over-reads

@@ -1,0 +1,2 @@
+mod NeverLaws
+mod PassOnLaws

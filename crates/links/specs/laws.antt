@@ -1,0 +1,4 @@
+pub mod Bytes
+pub mod Named
+pub mod Passing
+pub mod Linking

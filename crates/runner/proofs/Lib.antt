@@ -1,0 +1,5 @@
+mod BeginLaws
+mod SectionLaws
+pub mod WalkLaws
+pub mod ParamLaws
+pub mod LendLaws

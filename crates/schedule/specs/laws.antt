@@ -1,0 +1,4 @@
+pub mod Stuck
+pub mod Outlooks
+pub mod Stops
+pub mod Courses

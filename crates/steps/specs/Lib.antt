@@ -1,0 +1,4 @@
+pub mod Records
+pub mod Shown
+pub mod Machines
+pub mod Steps
