@@ -1,5 +1,9 @@
-/* launcher [--hex] [--] FILE: judges one handler table; --help says it all. */
+/* launcher [--hex] [--model FILE] [--] TABLE: judges one handler table; launcher [--hex] --update [--] OLD NEW ROUTINE
+ * MODEL: brings a model up to date where one routine is replaced; --help says it all. */
+#define _XOPEN_SOURCE 700 /* for a file that is put in the place of another */
+
 #include "refusals.h"
+#include "update.h"
 #include "vangpear.h"
 
 #include <ctype.h>
@@ -7,7 +11,10 @@
 #include <signal.h>
 #include <stdbool.h>
 #include <stdio.h>
+#include <stdlib.h>
 #include <string.h>
+#include <sys/stat.h>
+#include <unistd.h>
 
 /* One byte more than the largest table: a longer file is refused, whatever comes after. */
 #define TABLE_LIMIT 4164u
@@ -15,23 +22,39 @@
 /* Hexadecimal text may have spaces and comments: this many characters are plenty for a table. */
 #define TEXT_LIMIT (1u << 20)
 
-enum { CLEAR = 0, RING = 1, REFUSED = 2, TROUBLE = 3 };
+/* A file with a model may have bytes behind the rows: no more than this in all. */
+#define MODEL_LIMIT (1u << 20)
+
+/* How many words --update has besides options. */
+#define UPDATE_WORDS 4u
+
+enum { CLEAR = 0, DONE = 0, RING = 1, REFUSED = 2, TROUBLE = 3 };
 
 static const char help[] =
-    "usage: launcher [--hex] [--] FILE\n"
+    "usage: launcher [--hex] [--model FILE] [--] TABLE\n"
+    "       launcher [--hex] --update [--] OLD NEW ROUTINE MODEL\n"
     "\n"
     "Judges a handler table, whose format is in docs/FORMAT.md, and prints one line: `clear`, `ring` with a routine\n"
     "and a name, or `refused` with a number. What a ring or a refusal means is said in words on standard error.\n"
+    "With --update it brings the model of a table up to date where one of its routines is replaced, and prints\n"
+    "`done`, or `refused` with a number. That is no verdict: the new table is judged by itself.\n"
     "\n"
-    "  FILE        a table's bytes; - for standard input\n"
-    "  --hex       FILE is hexadecimal text, as in examples/: two digits to a byte, with or without 0x before a byte;\n"
-    "              spaces, commas and line ends stand between bytes; #, ; or // starts a comment\n"
-    "  --          ends the options: FILE may begin with -\n"
-    "  --help, -h  this text\n"
+    "  TABLE         a table's bytes; - for standard input\n"
+    "  --model FILE  writes the model of TABLE to FILE, 65 bytes for each routine; nothing where TABLE is refused\n"
+    "  --update      brings MODEL up to date: the body of ROUTINE is replaced, which makes OLD into NEW\n"
+    "  OLD, NEW      the table before and the table after, like TABLE; only one of them can be -\n"
+    "  ROUTINE       the number of the routine, in decimal digits\n"
+    "  MODEL         a file that has the model of OLD, as --model writes it, and gets that of NEW. Bytes behind the\n"
+    "                rows are kept; it has 1 MiB at most. A refusal leaves it as it is\n"
+    "  --hex         tables are hexadecimal text, as in examples/: two digits to a byte, with or without 0x before a\n"
+    "                byte; spaces, commas and line ends stand between bytes; #, ; or // starts a comment\n"
+    "  --            ends the options: what comes after it may begin with -\n"
+    "  --help, -h    this text\n"
     "\n"
-    "No more of FILE is read than the largest table needs.\n"
-    "Exit status: 0 clear, 1 ring, 2 refused, 3 trouble (no such file, no hexadecimal text, output that cannot be\n"
-    "written and the like).\n";
+    "No more of a table is read than the largest table needs. A model is written before anything is printed, to a new\n"
+    "file in the folder of FILE or MODEL, which is then put in its place: if that fails, the old one is still there.\n"
+    "Exit status: 0 clear or done, 1 ring, 2 refused, 3 trouble (no such file, no hexadecimal text, output that\n"
+    "cannot be written and the like).\n";
 
 static void trouble(const char *name, const char *what)
 {
@@ -176,20 +199,110 @@ static void tell_ring(const uint8_t *table, unsigned routine, unsigned name)
             parameter ? "parameter" : "NEW or MIRROR", routine, name);
 }
 
-/* Analyses a table, prints the verdict, says what it means, and gives the exit status. */
-static int judge(const uint8_t *table, size_t length)
+/* Says that the model is not written to a file, and by errno why. */
+static bool unwritten(const char *name)
+{
+    fprintf(stderr, "launcher: %s: the model is not written: %s\n", name, strerror(errno));
+    return false;
+}
+
+/* The name for a new file in the folder of `target`, as mkstemp takes it, or null if there is no memory for it. It is
+ * to be freed. */
+static char *beside(const char *target)
+{
+    static const char new_file[] = ".launcher-XXXXXX";
+    const char *slash = strrchr(target, '/');
+    size_t folder = slash == NULL ? 0 : (size_t)(slash - target) + 1;
+    char *name = (char *)malloc(folder + sizeof new_file);
+    if (name == NULL) return NULL;
+    memcpy(name, target, folder);
+    memcpy(name + folder, new_file, sizeof new_file);
+    return name;
+}
+
+/* Writes all the bytes to an open file; gives whether that could be done, and if not, errno is set. */
+static bool write_all(int file, const uint8_t *bytes, size_t length)
+{
+    while (length > 0) {
+        ssize_t count = write(file, bytes, length);
+        if (count == 0) errno = EIO;
+        if (count <= 0) return false;
+        bytes += count;
+        length -= (size_t)count;
+    }
+    return true;
+}
+
+/* Writes the bytes to a new file, whose name mkstemp makes of `name`, and puts it in the place of `target`. So `target`
+ * is always whole: as it was, or as it is to be. Gives whether it is as it is to be; if not, errno is set. */
+static bool put(const char *target, char *name, mode_t mode, const uint8_t *bytes, size_t length)
+{
+    int file = mkstemp(name);
+    if (file < 0) return false;
+    bool good = write_all(file, bytes, length) && fchmod(file, mode) == 0 && fsync(file) == 0;
+    int error = errno;
+    if (close(file) != 0 && good) {
+        good = false;
+        error = errno;
+    }
+    if (good && rename(name, target) != 0) {
+        good = false;
+        error = errno;
+    }
+    if (!good) unlink(name);
+    errno = error;
+    return good;
+}
+
+/* The mode of a file that is made anew. */
+static mode_t new_mode(void)
+{
+    mode_t mask = umask(0);
+    umask(mask);
+    return 0666 & ~mask;
+}
+
+/* Puts a file with the model's bytes in the place of the one with this name, or of the one that a symbolic link of this
+ * name leads to, with the mode that it has. Gives whether that is done; if it is not, that is said. */
+static bool write_model(const char *name, const uint8_t *model, size_t length)
+{
+    struct stat old;
+    bool there = stat(name, &old) == 0;
+    if (!there && errno != ENOENT) return unwritten(name);
+    if (there && !S_ISREG(old.st_mode)) {
+        trouble(name, "the model is not written: this is no regular file");
+        return false;
+    }
+    if (there && access(name, W_OK) != 0) return unwritten(name);
+    char *target = there ? realpath(name, NULL) : strdup(name);
+    char *new_file = target == NULL ? NULL : beside(target);
+    bool good = new_file != NULL && put(target, new_file, there ? old.st_mode & 07777 : new_mode(), model, length);
+    if (!good) unwritten(name);
+    free(new_file);
+    free(target);
+    return good;
+}
+
+/* Prints a refusal, says what it means, behind some words, and gives the exit status. */
+static int refuse(uint32_t answer, const char *words)
+{
+    printf("refused %u\n", (unsigned)answer);
+    if (!written()) return TROUBLE;
+    fprintf(stderr, "launcher: %s: %s\n", words, vangpear_refusals[answer]);
+    return REFUSED;
+}
+
+/* Analyses a table, writes the model to a file unless its name is null, prints the verdict, says what it means, and
+ * gives the exit status. */
+static int judge(const uint8_t *table, size_t length, const char *file)
 {
     uint8_t model[VANGPEAR_MODEL];
     uint32_t answer = vangpear_analyse(table, length, model, sizeof model);
+    if (answer > 0 && answer < VANGPEAR_RING) return refuse(answer, "refused");
+    if (file != NULL && !write_model(file, model, VANGPEAR_ROW * table[0])) return TROUBLE;
     if (answer == 0) {
         puts("clear");
         return written() ? CLEAR : TROUBLE;
-    }
-    if (answer < VANGPEAR_RING) {
-        printf("refused %u\n", (unsigned)answer);
-        if (!written()) return TROUBLE;
-        fprintf(stderr, "launcher: refused: %s\n", vangpear_refusals[answer]);
-        return REFUSED;
     }
     unsigned routine = VANGPEAR_RING_ROUTINE(answer), name = VANGPEAR_RING_NAME(answer);
     printf("ring %u %u\n", routine, name);
@@ -200,16 +313,130 @@ static int judge(const uint8_t *table, size_t length)
 
 /* What the arguments ask for. */
 struct order {
-    const char *file;
+    /* The table; or, with --update, the old table, the new one, the routine's number and the model's file. */
+    const char *words[UPDATE_WORDS];
+    size_t count;
+    uint64_t routine;
+    /* Where the model of a judged table is written; null for nowhere. */
+    const char *model;
     bool hex;
+    bool update;
     bool help;
 };
+
+/* Reads the one table, and judges it. */
+static int judge_file(const struct order *order)
+{
+    static uint8_t table[TEXT_LIMIT + 1];
+    long length = read_table(order->words[0], order->hex, table, sizeof table);
+    return length < 0 ? TROUBLE : judge(table, (size_t)length, order->model);
+}
+
+/* Reads a model, with the bytes behind its rows. Gives the number of bytes, or -1 if that cannot be done, which it
+ * says. */
+static long read_model(const char *name, uint8_t *bytes, size_t size)
+{
+    long length = read_file(name, bytes, size);
+    if (length < 0) trouble(name, strerror(errno));
+    if (length <= (long)MODEL_LIMIT) return length;
+    trouble(name, "it is larger than 1 MiB, and is no file with a model");
+    return -1;
+}
+
+/* Which refusal a number of vangpear_update is, in words: 1 to 14 are of the old table, or of the new one. */
+static const char *refused_what(uint32_t answer, const uint8_t *old_table, size_t length)
+{
+    if (answer > 14) return "refused";
+    return vangpear_check(old_table, length) == answer ? "the old table is refused" : "the new table is refused";
+}
+
+/* Brings the model in a file up to date, prints how that came out, and gives the exit status. */
+static int update_file(const struct order *order)
+{
+    static uint8_t old_table[TEXT_LIMIT + 1], new_table[TEXT_LIMIT + 1], model[MODEL_LIMIT + 1];
+    const char *file = order->words[3];
+    long old_length = read_table(order->words[0], order->hex, old_table, sizeof old_table);
+    if (old_length < 0) return TROUBLE;
+    long new_length = read_table(order->words[1], order->hex, new_table, sizeof new_table);
+    if (new_length < 0) return TROUBLE;
+    long size = read_model(file, model, sizeof model);
+    if (size < 0) return TROUBLE;
+    uint32_t answer = vangpear_update(old_table, (size_t)old_length, new_table, (size_t)new_length, order->routine,
+                                      model, (size_t)size);
+    if (answer != VANGPEAR_DONE) return refuse(answer, refused_what(answer, old_table, (size_t)old_length));
+    if (!write_model(file, model, (size_t)size)) return TROUBLE;
+    puts("done");
+    return written() ? DONE : TROUBLE;
+}
 
 /* Says how the arguments are wrong: what, and the word that is if there is one. */
 static bool misused(const char *word, const char *what)
 {
     fprintf(stderr, "launcher: %s%s (launcher --help says how it is used)\n", word, what);
     return false;
+}
+
+/* Takes the file's name behind --model, which is null where there is none; gives whether it makes sense. */
+static bool take_model(const char *word, struct order *order)
+{
+    if (word == NULL || word[0] == '-') return misused("", "--model needs a FILE, which does not begin with -");
+    if (order->model != NULL) return misused("", "--model is given twice");
+    order->model = word;
+    return true;
+}
+
+/* Takes one option; gives whether there is such an option. */
+static bool take_option(const char *word, struct order *order)
+{
+    if (strcmp(word, "--hex") == 0) {
+        order->hex = true;
+    } else if (strcmp(word, "--update") == 0) {
+        order->update = true;
+    } else if (strcmp(word, "--help") == 0 || strcmp(word, "-h") == 0) {
+        order->help = true;
+    } else {
+        return misused(word, " is no option");
+    }
+    return true;
+}
+
+/* Takes a number in decimal digits from a word that is not empty; gives whether it is one, and has room in 64 bits. */
+static bool take_number(const char *word, uint64_t *number)
+{
+    uint64_t value = 0;
+    for (; *word != '\0'; word++) {
+        if (*word < '0' || *word > '9') return false;
+        unsigned figure = (unsigned)(*word - '0');
+        if (value > (UINT64_MAX - figure) / 10) return false;
+        value = 10 * value + figure;
+    }
+    *number = value;
+    return true;
+}
+
+/* Whether the words of --update make sense; takes the routine's number. */
+static bool take_update(struct order *order)
+{
+    if (order->model != NULL) return misused("", "--model does not go with --update");
+    if (order->count != UPDATE_WORDS) return misused("", "--update takes four words, OLD NEW ROUTINE MODEL");
+    if (strcmp(order->words[0], "-") == 0 && strcmp(order->words[1], "-") == 0)
+        return misused("", "standard input is one table, and - is given twice");
+    const char *number = order->words[2][0] != '\0' ? order->words[2] : "an empty word";
+    if (!take_number(number, &order->routine))
+        return misused(number, " is no ROUTINE: that is a number in decimal digits, up to 18446744073709551615");
+    if (strcmp(order->words[3], "-") == 0) return misused("", "MODEL is a file that is written, and - is none");
+    return true;
+}
+
+/* Whether the words as a whole make sense. */
+static bool take_words(struct order *order)
+{
+    if (order->help) return true;
+    if (order->update) return take_update(order);
+    if (order->count == 0)
+        return misused("", "usage: launcher [--hex] [--model FILE] [--] TABLE, and - is standard input; or "
+                           "launcher [--hex] --update [--] OLD NEW ROUTINE MODEL");
+    return order->count == 1 || misused("", "one table at a time");
 }
 
 /* Takes the arguments apart; gives whether they make sense. */
@@ -219,34 +446,32 @@ static bool parse(int argc, char **argv, struct order *order)
     for (int i = 1; i < argc && !order->help; i++) {
         const char *word = argv[i];
         if (!options || word[0] != '-' || word[1] == '\0') {
-            if (order->file != NULL) return misused("", "one table at a time");
-            order->file = word;
+            if (order->count < UPDATE_WORDS) order->words[order->count] = word;
+            order->count++;
         } else if (strcmp(word, "--") == 0) {
             options = false;
-        } else if (strcmp(word, "--hex") == 0) {
-            order->hex = true;
-        } else if (strcmp(word, "--help") == 0 || strcmp(word, "-h") == 0) {
-            order->help = true;
-        } else {
-            return misused(word, " is no option");
+        } else if (strcmp(word, "--model") == 0) {
+            if (!take_model(i + 1 < argc ? argv[++i] : NULL, order)) return false;
+        } else if (!take_option(word, order)) {
+            return false;
         }
     }
-    if (order->help || order->file != NULL) return true;
-    return misused("", "usage: launcher [--hex] [--] FILE, and - is standard input");
+    return take_words(order);
 }
 
 int main(int argc, char **argv)
 {
-    static uint8_t bytes[TEXT_LIMIT + 1];
-    struct order order = {NULL, false, false};
+    struct order order = {.count = 0};
 #ifdef SIGPIPE
     signal(SIGPIPE, SIG_IGN); /* so that a pipe that nobody reads is trouble like any other */
+#endif
+#ifdef SIGXFSZ
+    signal(SIGXFSZ, SIG_IGN); /* and so is a file that may not become so large */
 #endif
     if (!parse(argc, argv, &order)) return TROUBLE;
     if (order.help) {
         fputs(help, stdout);
         return written() ? CLEAR : TROUBLE;
     }
-    long length = read_table(order.file, order.hex, bytes, sizeof bytes);
-    return length < 0 ? TROUBLE : judge(bytes, (size_t)length);
+    return order.update ? update_file(&order) : judge_file(&order);
 }

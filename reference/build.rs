@@ -1,7 +1,8 @@
-//! Hands the archive to the linker, for the binaries `compare`, `bench` and `small` alone.
+//! Hands archives to the linker, for the binaries `compare`, `bench`, `small` and `updates`
+//! alone.
 //!
-//! VANGPEAR_ARCHIVE_DIR is the archive's folder, VANGPEAR_ARCHIVE its name
-//! without `lib` and `.a`. Nothing is linked unless the feature `archive` is on.
+//! VANGPEAR_ARCHIVE_DIR is the archives' folder, VANGPEAR_ARCHIVE their names without `lib`
+//! and `.a`, apart by spaces. Nothing is linked unless the feature `archive` is on.
 
 use std::env;
 use std::path::Path;
@@ -17,16 +18,22 @@ fn main() {
         env::var("VANGPEAR_ARCHIVE_DIR"),
         env::var("VANGPEAR_ARCHIVE"),
     ) {
-        (Ok(folder), Ok(name)) => {
-            let archive = Path::new(&folder).join(format!("lib{name}.a"));
-            let archive = archive.canonicalize().unwrap_or(archive);
-            println!("cargo:rerun-if-changed={}", archive.display());
-            for binary in ["compare", "bench", "small"] {
-                println!("cargo:rustc-link-arg-bin={binary}={}", archive.display());
+        (Ok(folder), Ok(names)) => {
+            for name in names.split_whitespace() {
+                hand_over(&Path::new(&folder).join(format!("lib{name}.a")));
             }
         }
         _ => println!(
             "cargo:warning=VANGPEAR_ARCHIVE_DIR and VANGPEAR_ARCHIVE are not both set, so nothing will link"
         ),
+    }
+}
+
+/// Hands one archive to the linker.
+fn hand_over(archive: &Path) {
+    let archive = archive.canonicalize().unwrap_or(archive.to_path_buf());
+    println!("cargo:rerun-if-changed={}", archive.display());
+    for binary in ["compare", "bench", "small", "updates"] {
+        println!("cargo:rustc-link-arg-bin={binary}={}", archive.display());
     }
 }

@@ -1,11 +1,23 @@
-//! The functions of the archive that is under test. Nothing checks these
-//! declarations against its source: see launcher/vangpear.h.
+//! The functions of the archives that are under test. Nothing checks these
+//! declarations against their source: see launcher/vangpear.h and launcher/update.h.
+//!
+//! A binary needs the archives of those functions alone that it calls: the linker drops the
+//! others.
 
 extern "C" {
     fn vangpear_check(table: *const u8, len: usize) -> u32;
     fn vangpear_analyse(
         table: *const u8,
         table_len: usize,
+        model: *mut u8,
+        model_len: usize,
+    ) -> u32;
+    fn vangpear_update(
+        old: *const u8,
+        old_len: usize,
+        new: *const u8,
+        new_len: usize,
+        routine: u64,
         model: *mut u8,
         model_len: usize,
     ) -> u32;
@@ -20,4 +32,20 @@ pub fn analyse(table: &[u8], model: &mut [u8]) -> u32 {
     // SAFETY: pointers and lengths are those of two slices that do not overlap,
     // lent for the call.
     unsafe { vangpear_analyse(table.as_ptr(), table.len(), model.as_mut_ptr(), model.len()) }
+}
+
+pub fn update(old: &[u8], new: &[u8], routine: u64, model: &mut [u8]) -> u32 {
+    // SAFETY: pointers and lengths are those of three slices of which the last overlaps none
+    // of the others, lent for the call.
+    unsafe {
+        vangpear_update(
+            old.as_ptr(),
+            old.len(),
+            new.as_ptr(),
+            new.len(),
+            routine,
+            model.as_mut_ptr(),
+            model.len(),
+        )
+    }
 }

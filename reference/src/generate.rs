@@ -500,6 +500,33 @@ fn written(rng: &mut Rng, style: &Style, counts: &[u8], rooms: &[usize]) -> Vec<
     assemble(counts, &section)
 }
 
+/// A random valid body for one routine of a table with these parameter counts, of at most
+/// `room` bytes (at least 1).
+pub fn valid_body(rng: &mut Rng, counts: &[u8], routine: usize, room: usize) -> Vec<u8> {
+    let locals = if rng.chance(50) {
+        Locals::New
+    } else {
+        Locals::Mirrors
+    };
+    let style = Style {
+        new: 1,
+        lock: rng.between(4, 16),
+        fork: rng.between(0, 4),
+        choice: rng.between(0, 3),
+        call: rng.between(0, 6),
+        stop: rng.between(10, 50),
+        fill: rng.chance(50),
+        head: rng.between(1, 4),
+        max_locals: rng.between(2, 5) as u8,
+        max_fork: rng.between(1, 4) as u8,
+        max_open: rng.between(2, MAX_OPEN),
+        nests: Nests::Any,
+        mirrors: Mirrors::NONE,
+    }
+    .with(rng, locals);
+    body(rng, &style, counts, routine, room)
+}
+
 /// Parameter counts for `routines` routines, none for routine 0.
 fn counts(rng: &mut Rng, routines: usize, most: usize) -> Vec<u8> {
     let mut counts = vec![0];

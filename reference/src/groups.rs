@@ -1,16 +1,23 @@
 //! The tables that the benchmark times, in groups. Random ones are of one fixed seed.
 
 use crate::cases::worked;
-use crate::generate::{assemble, of_kind, Kind, Rng};
+use crate::generate::{assemble, of_kind, valid_body, Kind, Rng};
 use crate::hex;
 use crate::limits::code::*;
 use crate::limits::{MAX_PARAMETERS, MAX_ROUTINES, MAX_SECTION};
 use crate::table::read;
+use crate::update::reaching;
+use crate::updates::Draft;
 
 const SEED: u64 = 1;
 /// Tables of each random group, and of the one with random full tables.
 const RANDOM: usize = 100;
 const RANDOM_FULL: usize = 10;
+/// Most bytes of a random body that is put in place of another.
+const RANDOM_BODY: usize = 60;
+/// Routines of a table with the most of them.
+const LAST_ROUTINE: usize = MAX_ROUTINES - 1;
+const MIDDLE: usize = MAX_ROUTINES / 2;
 
 /// Tables that are timed together.
 pub struct Group {
@@ -20,50 +27,79 @@ pub struct Group {
     pub tables: Vec<Vec<u8>>,
 }
 
+/// Two tables that differ in the body of one routine.
+pub struct Replaced {
+    pub old: Vec<u8>,
+    pub new: Vec<u8>,
+    pub routine: usize,
+}
+
+impl Replaced {
+    /// How many rows may change, and how many there are.
+    pub fn rows(&self) -> (usize, usize) {
+        let table = read(&self.old).expect("an accepted table");
+        let changing = reaching(&table, self.routine).len();
+        (changing, table.routines.len())
+    }
+}
+
+/// Pairs of tables that are timed together.
+pub struct UpdateGroup {
+    pub name: &'static str,
+    /// What the tables are, and what is replaced.
+    pub what: &'static str,
+    pub pairs: Vec<Replaced>,
+}
+
+/// The ordinary random tables.
+const ORDINARY: [(&str, &str, Kind); 7] = [
+    (
+        "ordinary: small",
+        "random, 1 to 4 routines, few names, much aliasing",
+        Kind::Small,
+    ),
+    (
+        "ordinary: deep",
+        "random, 1 to 3 routines, blocks nested up to the limit",
+        Kind::Deep,
+    ),
+    (
+        "ordinary: wide",
+        "random, 1 to 8 routines, many names and forks",
+        Kind::Wide,
+    ),
+    (
+        "ordinary: tangle",
+        "random, many threads that each nest two or three locks",
+        Kind::Tangle,
+    ),
+    (
+        "ordinary: nested",
+        "random, many LOCKs on names that their thread holds",
+        Kind::Nested,
+    ),
+    (
+        "ordinary: mirrors",
+        "random, of all these sorts, with locks that have two names or more",
+        Kind::Mirrors,
+    ),
+    (
+        "ordinary: held by mirrors",
+        "random, many LOCKs on other names of what their thread holds",
+        Kind::HeldMirrors,
+    ),
+];
+
 /// All groups.
 pub fn groups() -> Vec<Group> {
     let group = |name, what, tables| Group { name, what, tables };
-    vec![
-        group(
-            "worked cases",
-            "the worked tables of docs/FORMAT.md, a to j",
-            worked().into_iter().map(|case| case.table).collect(),
-        ),
-        group(
-            "ordinary: small",
-            "random, 1 to 4 routines, few names, much aliasing",
-            valid(Kind::Small, RANDOM),
-        ),
-        group(
-            "ordinary: deep",
-            "random, 1 to 3 routines, blocks nested up to the limit",
-            valid(Kind::Deep, RANDOM),
-        ),
-        group(
-            "ordinary: wide",
-            "random, 1 to 8 routines, many names and forks",
-            valid(Kind::Wide, RANDOM),
-        ),
-        group(
-            "ordinary: tangle",
-            "random, many threads that each nest two or three locks",
-            valid(Kind::Tangle, RANDOM),
-        ),
-        group(
-            "ordinary: nested",
-            "random, many LOCKs on names that their thread holds",
-            valid(Kind::Nested, RANDOM),
-        ),
-        group(
-            "ordinary: mirrors",
-            "random, of all these sorts, with locks that have two names or more",
-            valid(Kind::Mirrors, RANDOM),
-        ),
-        group(
-            "ordinary: held by mirrors",
-            "random, many LOCKs on other names of what their thread holds",
-            valid(Kind::HeldMirrors, RANDOM),
-        ),
+    let mut groups = vec![group(
+        "worked cases",
+        "the worked tables of docs/FORMAT.md, a to j",
+        worked().into_iter().map(|case| case.table).collect(),
+    )];
+    groups.extend(ORDINARY.map(|(name, what, kind)| group(name, what, valid(kind, RANDOM))));
+    groups.extend([
         group(
             "full: LOCKs",
             "64 routines of seven names, LOCK and END items alone",
@@ -109,7 +145,97 @@ pub fn groups() -> Vec<Group> {
             "the two full tables above, with a bad code as their last byte",
             vec![spoilt(full_of_locks()), spoilt(full_of_calls())],
         ),
-    ]
+    ]);
+    groups
+}
+
+/// All groups of pairs.
+pub fn update_groups() -> Vec<UpdateGroup> {
+    let group = |name, what, pairs| UpdateGroup { name, what, pairs };
+    let mut groups = vec![
+        group(
+            "uncalled: LOCKs",
+            "the table of full: LOCKs; nobody calls routine 63, which gets other LOCKs",
+            vec![uncalled_with_locks()],
+        ),
+        group(
+            "uncalled: calls",
+            "as full: calls, but nobody calls routine 63, which gets other LOCKs and calls",
+            vec![uncalled_with_calls()],
+        ),
+        group(
+            "called by all",
+            "64 routines; all others call routine 63, which takes its two locks in the other order",
+            vec![turned(all_call_one(), LAST_ROUTINE, None)],
+        ),
+        group(
+            "chain: middle",
+            "the table of chain: rising; routine 32 takes its other lock, and calls 33 as before",
+            vec![turned(chain_rising(), MIDDLE, Some(MIDDLE + 1))],
+        ),
+        group(
+            "chain: leaf",
+            "the same; routine 63, which all reach, takes its two locks in the other order",
+            vec![turned(chain_rising(), LAST_ROUTINE, None)],
+        ),
+    ];
+    groups.extend(ORDINARY.map(|(name, _, kind)| {
+        let what = "the tables of that group above; any one routine gets another random body";
+        group(name, what, ordinary_pairs(kind))
+    }));
+    groups
+}
+
+/// A table and the same with this body for one routine.
+fn replaced(old: Vec<u8>, routine: usize, body: Vec<u8>) -> Replaced {
+    let new = Draft::of(&old).with(routine, body).table();
+    Replaced { old, new, routine }
+}
+
+/// The last routine of a table replaced, by items that `body` writes in as many bytes as there is
+/// room for.
+fn last_replaced(old: Vec<u8>, body: impl FnOnce(usize) -> Vec<u8>) -> Replaced {
+    let room = Draft::of(&old).room(LAST_ROUTINE);
+    let mut items = body(room - 1);
+    items.push(END);
+    replaced(old, LAST_ROUTINE, items)
+}
+
+fn uncalled_with_locks() -> Replaced {
+    let mut rng = Rng::new(SEED + 1);
+    last_replaced(full_of_locks(), |room| locks(&mut rng, room))
+}
+
+fn uncalled_with_calls() -> Replaced {
+    let most = LAST_ROUTINE - 1;
+    let mut rng = Rng::new(SEED + 1);
+    last_replaced(full_of_calls_up_to(most), |room| {
+        calls(&mut rng, most, room)
+    })
+}
+
+/// A routine of a chain replaced: it takes its second name where it took the first.
+fn turned(old: Vec<u8>, routine: usize, next: Option<usize>) -> Replaced {
+    replaced(old, routine, link([2, 1], next))
+}
+
+/// The random tables of a kind, with another body for any of their routines.
+fn ordinary_pairs(kind: Kind) -> Vec<Replaced> {
+    let mut rng = Rng::new(SEED);
+    let pairs = valid(kind, RANDOM).into_iter();
+    pairs.map(|old| randomly_replaced(&mut rng, old)).collect()
+}
+
+fn randomly_replaced(rng: &mut Rng, old: Vec<u8>) -> Replaced {
+    let draft = Draft::of(&old);
+    let routine = rng.below(draft.counts.len());
+    let room = draft.room(routine).min(RANDOM_BODY);
+    loop {
+        let body = valid_body(rng, &draft.counts, routine, room);
+        if body != draft.bodies[routine] {
+            return replaced(old, routine, body);
+        }
+    }
 }
 
 /// Random tables of a kind, those that pass or those that do not.
@@ -157,62 +283,80 @@ fn nest(rng: &mut Rng) -> Vec<u8> {
     items
 }
 
-/// Each body is nests of LOCK items.
+/// Nests of LOCK items while there is room.
+fn locks(rng: &mut Rng, room: usize) -> Vec<u8> {
+    let mut items = Vec::new();
+    loop {
+        let nest = nest(rng);
+        if items.len() + nest.len() > room {
+            return items;
+        }
+        items.extend(nest);
+    }
+}
+
 fn full_of_locks() -> Vec<u8> {
     let mut rng = Rng::new(SEED);
-    full(|room| {
-        let mut items = Vec::new();
-        loop {
-            let nest = nest(&mut rng);
-            if items.len() + nest.len() > room {
-                return items;
-            }
-            items.extend(nest);
-        }
-    })
+    full(|room| locks(&mut rng, room))
 }
 
-/// Each body is one LOCK inside another, and calls with seven names while there is room, the first of
-/// them by a new thread that holds a lock.
+/// One LOCK inside another, and calls of routines up to `most` with seven names while there is room,
+/// the first of them by a new thread that holds a lock.
+fn calls(rng: &mut Rng, most: usize, room: usize) -> Vec<u8> {
+    let mut items = vec![LOCK, name(rng), LOCK, name(rng), END, END];
+    items.extend([FORK, LOCK, name(rng)]);
+    items.extend(call(rng, most));
+    items.extend([END, END]);
+    loop {
+        let call = call(rng, most);
+        if items.len() + call.len() > room {
+            return items;
+        }
+        items.extend(call);
+    }
+}
+
 fn full_of_calls() -> Vec<u8> {
-    let mut rng = Rng::new(SEED);
-    full(|room| {
-        let mut items = vec![LOCK, name(&mut rng), LOCK, name(&mut rng), END, END];
-        items.extend([FORK, LOCK, name(&mut rng)]);
-        items.extend(call(&mut rng));
-        items.extend([END, END]);
-        loop {
-            let call = call(&mut rng);
-            if items.len() + call.len() > room {
-                return items;
-            }
-            items.extend(call);
-        }
-    })
+    full_of_calls_up_to(LAST_ROUTINE)
 }
 
-/// A CALL of any routine but 0.
-fn call(rng: &mut Rng) -> Vec<u8> {
-    let mut item = vec![CALL, rng.between(1, MAX_ROUTINES - 1) as u8];
+/// Nobody calls a routine above `most`.
+fn full_of_calls_up_to(most: usize) -> Vec<u8> {
+    let mut rng = Rng::new(SEED);
+    full(|room| calls(&mut rng, most, room))
+}
+
+/// A CALL of any routine up to `most` but 0.
+fn call(rng: &mut Rng, most: usize) -> Vec<u8> {
+    let mut item = vec![CALL, rng.between(1, most) as u8];
     item.extend((0..MAX_PARAMETERS).map(|_| name(rng)));
     item
 }
 
-/// A chain of 64 routines that begins at routine 0: `next` gives the routine after another, none after
-/// the last. Each calls the next one under the lock of its first name, the last nests its two names.
+/// A body that takes the first of its two names, and in it calls the next routine, or takes the second
+/// if there is none.
+fn link([first, second]: [u8; 2], next: Option<usize>) -> Vec<u8> {
+    let inside = match next {
+        Some(callee) => vec![CALL, callee as u8, 1, 2],
+        None => vec![LOCK, second, END],
+    };
+    [&[LOCK, first], &inside[..], &[END, END]].concat()
+}
+
+/// A table of 64 routines with two names each: `next` gives the one that another calls, none for the
+/// last of a chain.
 fn chain(next: impl Fn(usize) -> Option<usize>) -> Vec<u8> {
     let mut counts = [2; MAX_ROUTINES];
     counts[0] = 0;
     let mut section = vec![NEW, NEW];
     for routine in 0..MAX_ROUTINES {
-        section.extend([LOCK, 1]);
-        match next(routine) {
-            Some(callee) => section.extend([CALL, callee as u8, 1, 2]),
-            None => section.extend([LOCK, 2, END]),
-        }
-        section.extend([END, END]);
+        section.extend(link([1, 2], next(routine)));
     }
     assemble(&counts, &section)
+}
+
+fn all_call_one() -> Vec<u8> {
+    chain(|routine| Some(LAST_ROUTINE).filter(|&one| one != routine))
 }
 
 fn chain_rising() -> Vec<u8> {
@@ -237,4 +381,40 @@ fn spoilt(mut table: Vec<u8>) -> Vec<u8> {
         *last = LAST + 1;
     }
     table
+}
+
+#[cfg(test)]
+mod tests {
+    use super::*;
+    use crate::limits::ROW_BYTES;
+    use crate::update::differ_there_alone;
+    use crate::updates::own_model;
+
+    #[test]
+    fn pairs_differ_in_one_body() {
+        for group in update_groups() {
+            for pair in &group.pairs {
+                assert!(read(&pair.old).is_ok() && read(&pair.new).is_ok());
+                assert_ne!(pair.old, pair.new, "{}", group.name);
+                let routine = pair.routine as u64;
+                assert!(differ_there_alone(&pair.old, &pair.new, routine));
+            }
+        }
+    }
+
+    /// In the pairs made by hand all rows change that may, but that of routine 0: it has no cells.
+    #[test]
+    fn rows_change_as_far_as_the_groups_say() {
+        let due = [(1, 1), (1, 1), (64, 63), (33, 32), (64, 63)];
+        for (group, (may, do_change)) in update_groups().iter().zip(due) {
+            let [pair] = &group.pairs[..] else {
+                panic!("{} has not one pair", group.name);
+            };
+            assert_eq!(pair.rows(), (may, MAX_ROUTINES), "{}", group.name);
+            let (old, new) = (own_model(&pair.old), own_model(&pair.new));
+            let rows = old.chunks(ROW_BYTES).zip(new.chunks(ROW_BYTES));
+            let changed = rows.filter(|(old, new)| old != new).count();
+            assert_eq!(changed, do_change, "{}", group.name);
+        }
+    }
 }

@@ -1,5 +1,5 @@
 //! A second analyser and runner of handler tables, written from document 01 and requests
-//! #101, #102 and #104 to #106 of document 02, the customer's papers, apart from what is
+//! #101, #102 and #104 to #107 of document 02, the customer's papers, apart from what is
 //! under test; docs/FORMAT.md is our page on the same format.
 //!
 //! It is kept plain, to be compared against, not to be fast:
@@ -7,12 +7,16 @@
 //! share, `listing` is the program's text. `cases` and `generate` give tables to try,
 //! `frames` puts many of them into one input. `small` has all small tables of some
 //! families, and what request #105 moves in them. `runner` runs a table under a schedule,
-//! `desk` is the text of that, and `schedules` gives inputs to try. `fast` and `groups` are
-//! there for the benchmark alone, and `archive` calls what is under test.
+//! `desk` is the text of that, and `schedules` gives inputs to try. `update` brings a model
+//! up to date where one routine has another body, `update_cases` and `updates` give inputs
+//! to try, and `update_marks` tells what those have in them. `fast`, `groups` and `timing` are
+//! there for the benchmark alone, `command` has what the binaries share that compare, and
+//! `archive` calls what is under test.
 
 #[cfg(feature = "archive")]
 pub mod archive;
 pub mod cases;
+pub mod command;
 pub mod desk;
 pub mod fast;
 pub mod frames;
@@ -26,6 +30,11 @@ pub mod runner;
 pub mod schedules;
 pub mod small;
 pub mod table;
+pub mod timing;
+pub mod update;
+pub mod update_cases;
+pub mod update_marks;
+pub mod updates;
 
 use limits::{refusal, CHECK_ROUTINE, RING_BASE, RING_NAME, RING_ROUTINE, ROW_BYTES};
 pub use listing::{listing, listing_by, listing_with};

@@ -1,4 +1,4 @@
-//! Every number that docs/FORMAT.md and request #106 fix, in one place.
+//! Every number that docs/FORMAT.md and requests #106 and #107 fix, in one place.
 
 /// Most routines in a table.
 pub const MAX_ROUTINES: usize = 64;
@@ -23,6 +23,10 @@ pub const RING_BYTE: usize = 64;
 pub const CELL_OWN: u8 = 1;
 pub const CELL_UNKNOWN: u8 = 2;
 pub const CELL_SEVERAL: u8 = 4;
+/// A cell with every label.
+pub const CELL_MOST: u8 = CELL_OWN + CELL_UNKNOWN + CELL_SEVERAL;
+/// The ring byte of a body with a ring.
+pub const RING_MOST: u8 = 1;
 
 /// The whole that a share is given in.
 pub const WHOLE: usize = 100;
@@ -84,4 +88,6 @@ pub mod refusal {
     pub const SHORT_BUFFER: u32 = 15;
     pub const UNSTARTED: u32 = 16;
     pub const BEYOND: u32 = 17;
+    pub const OTHER_TABLE: u32 = 18;
+    pub const BAD_MODEL: u32 = 19;
 }

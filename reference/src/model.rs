@@ -2,7 +2,7 @@
 //!
 //! Naive on purpose: plain sets of pairs, recomputed until nothing changes.
 
-use std::collections::BTreeSet;
+use std::collections::{BTreeMap, BTreeSet};
 
 use crate::limits::{CELL_OWN, CELL_SEVERAL, CELL_UNKNOWN, OUTER_NAME};
 use crate::limits::{RING_BYTE, ROW_BYTES, ROW_SIDE, WHOLE};
@@ -288,33 +288,42 @@ fn rings(pairs: &Pairs) -> BTreeSet<u8> {
         .collect()
 }
 
-/// The least rows that satisfy the rules: from empty rows, every body is worked
-/// out again from the last rows until a whole sweep leaves all rows as they were.
+/// The least rows that satisfy the rules, for all routines. They begin empty.
 pub fn least_model(rules: Rules, table: &Table) -> Vec<Outcome> {
-    let mut rows = vec![Pairs::new(); table.routines.len()];
+    let all = (0..table.routines.len()).collect();
+    let none = vec![Pairs::new(); table.routines.len()];
+    least_rows(rules, table, &all, none).into_values().collect()
+}
+
+/// Works out the routines in `anew`: their rows begin as in `rows`, and grow until they
+/// satisfy the rules. All others keep the rows given, whatever their bodies are. Where those
+/// in `anew` begin empty, they come out as the least that satisfy the rules.
+pub fn least_rows(
+    rules: Rules,
+    table: &Table,
+    anew: &BTreeSet<usize>,
+    mut rows: Vec<Pairs>,
+) -> BTreeMap<usize, Outcome> {
+    // Every body is worked out again from the last rows, until a whole sweep adds nothing.
     loop {
-        let bodies: Vec<Pairs> = table
-            .routines
+        let bodies: BTreeMap<usize, Pairs> = anew
             .iter()
-            .map(|routine| close(recorded(rules, routine, &rows)))
+            .map(|&at| (at, close(recorded(rules, &table.routines[at], &rows))))
             .collect();
-        let next: Vec<Pairs> = table
-            .routines
-            .iter()
-            .zip(&bodies)
-            .map(|(routine, pairs)| row(routine.parameters, pairs))
-            .collect();
-        if next == rows {
-            return next
-                .into_iter()
-                .zip(&bodies)
-                .map(|(row, pairs)| Outcome {
-                    row,
-                    rings: rings(pairs),
-                })
-                .collect();
+        let mut grown = false;
+        for (&at, pairs) in &bodies {
+            for pair in row(table.routines[at].parameters, pairs) {
+                grown |= rows[at].insert(pair);
+            }
         }
-        rows = next;
+        if !grown {
+            let outcome = |(at, pairs): (usize, Pairs)| {
+                let row = rows[at].clone();
+                let rings = rings(&pairs);
+                (at, Outcome { row, rings })
+            };
+            return bodies.into_iter().map(outcome).collect();
+        }
     }
 }
 
@@ -324,11 +333,7 @@ pub fn reached(table: &Table) -> BTreeSet<usize> {
     let mut waiting = vec![0];
     while let Some(routine) = waiting.pop() {
         if reached.insert(routine) {
-            for item in &table.routines[routine].items {
-                if let Item::Call { routine, .. } = item {
-                    waiting.push(*routine);
-                }
-            }
+            waiting.extend(table.routines[routine].callees());
         }
     }
     reached
@@ -372,6 +377,27 @@ pub fn row_bytes(outcome: &Outcome) -> [u8; ROW_BYTES] {
     }
     bytes[RING_BYTE] = if outcome.rings.is_empty() { 0 } else { 1 };
     bytes
+}
+
+/// The pairs of the cells of one routine's 65 bytes.
+pub fn row_pairs(bytes: &[u8]) -> Pairs {
+    let mut pairs = Pairs::new();
+    for (at, cell) in bytes[..RING_BYTE].iter().enumerate() {
+        for (label, part) in [
+            (Label::Own, CELL_OWN),
+            (Label::Unknown, CELL_UNKNOWN),
+            (Label::Several, CELL_SEVERAL),
+        ] {
+            if cell & part != 0 {
+                pairs.insert(Pair {
+                    held: (at / ROW_SIDE) as u8,
+                    wanted: (at % ROW_SIDE) as u8,
+                    label,
+                });
+            }
+        }
+    }
+    pairs
 }
 
 #[cfg(test)]

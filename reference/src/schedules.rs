@@ -98,7 +98,8 @@ fn lent(rng: &mut Rng) -> u8 {
     }
 }
 
-fn pick<'a, T>(rng: &mut Rng, all: &'a [T]) -> &'a T {
+/// Any of these.
+pub(crate) fn pick<'a, T>(rng: &mut Rng, all: &'a [T]) -> &'a T {
     &all[rng.below(all.len())]
 }
 
@@ -163,22 +164,25 @@ pub fn table_of(rng: &mut Rng, sort: Sort) -> Vec<u8> {
 }
 
 /// LOCK blocks one in another, with these items in the innermost one.
-fn nest(names: &[u8], inside: &[u8]) -> Vec<u8> {
+pub(crate) fn nest(names: &[u8], inside: &[u8]) -> Vec<u8> {
     let mut items: Vec<u8> = names.iter().flat_map(|&name| [LOCK, name]).collect();
     items.extend(inside);
     items.extend(names.iter().map(|_| END));
     items
 }
 
-fn fork(items: &[u8]) -> Vec<u8> {
+/// These items in a fork.
+pub(crate) fn fork(items: &[u8]) -> Vec<u8> {
     [&[FORK], items, &[END]].concat()
 }
 
-fn choice(first: &[u8], second: &[u8]) -> Vec<u8> {
+/// A choice of these items.
+pub(crate) fn choice(first: &[u8], second: &[u8]) -> Vec<u8> {
     [&[CHOICE], first, &[OTHER], second, &[END]].concat()
 }
 
-fn call(routine: u8, names: &[u8]) -> Vec<u8> {
+/// A CALL with these names.
+pub(crate) fn call(routine: u8, names: &[u8]) -> Vec<u8> {
     [&[CALL, routine], names].concat()
 }
 

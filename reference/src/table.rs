@@ -63,6 +63,14 @@ impl Table {
 }
 
 impl Routine {
+    /// The routine of each CALL, in written order.
+    pub fn callees(&self) -> impl Iterator<Item = usize> + '_ {
+        self.items.iter().filter_map(|item| match item {
+            Item::Call { routine, .. } => Some(*routine),
+            _ => None,
+        })
+    }
+
     /// For each name from 0 on, the name that pairs are recorded under: that of a
     /// mirror's lock, all the way back to a NEW or a parameter, else the name itself.
     pub fn roots(&self) -> Vec<u8> {

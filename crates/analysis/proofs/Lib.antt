@@ -1,13 +1,5 @@
-mod MaskLaws
-mod ReachLaws
-mod DueLaws
 mod JudgingLaws
-mod SettleLaws
 mod ModelLaws
-mod BodyLaws
-mod LoopLaws
-mod SurveyLaws
-mod WorkLaws
 mod VerdictLaws
 mod AnalyseLaws
 mod NumberLaws

@@ -1,32 +1,22 @@
 -- Rows that are all fresh are the least model, byte for byte, and the verdict is read off them.
-use mathlib.Core.Path.{_≡_, sym, subst}
-use mathlib.Core.Logic.{inl, inr}
 use mathlib.Core.List.{List}
-use Prim.Native.Nat.{ℕ, _+_, _*_, _/_, _%_, _^_, _≤_, _<_}
+use Prim.Native.Nat.{ℕ, _+_, _*_, _≤_, _<_}
 use native.Mathlib.Omega.{arith}
-use native.Mathlib.Decide.{ℕ-discrete, decLt}
+use native.Mathlib.Decide.{decLt}
 use lib.ListN.{length, getD}
 use Rattle.table.specs.Program.{Program}
-use Rattle.rules.specs.Label.{Label, own, unknown, several}
 use Rattle.rules.specs.Model.{Row, Ring}
 use Rattle.rules.specs.Verdict.{Reached, Clear, RingAt}
-use Rattle.rows.specs.Model.{Labelled, RingByte}
+use Rattle.rows.specs.Bytes.{RingByte, RowsOf}
 use Rattle.rows.specs.laws.Fixpoint.{Settled, settled}
 use Rattle.table.specs.Constants.{row-bytes, row-names}
 use Rattle.analysis.specs.Answer.{Flag, Cell, Models}
-use Rattle.analysis.specs.laws.Settle.{RowsOf, Named, Fresh, Partly}
+use Rattle.analysis.specs.laws.Bytes.{bit-flag, cell-at}
+use Rattle.settle.specs.Settle.{Named, Fresh, AllFresh}
 
--- a bit that is set exactly where Q holds
-bit-flag : (v : ℕ) (Q : Type 0) → v < 2 → (v ≡ 1 → Q) → (Q → v ≡ 1) → Flag v Q
-bit-flag v Q l f g = step (ℕ-discrete v 1)
-  where
-    step : Dec (v ≡ 1) → Flag v Q
-    step (yes e) = inl (e, f e)
-    step (no n) = inr (omega arith, λ q. n (g q))
-
-module _ (P : Program) (before model names : List ℕ) (part : Partly P before model names (λ r. ⊥)) where
+module _ (P : Program) (before model names : List ℕ) (part : AllFresh P before model names) where
   fresh : (r : ℕ) → r < length P → Fresh P model names r
-  fresh r l = part .fresh r l (λ x. x)
+  fresh r l = part .fresh r l
 
   pub all-settled : Settled P (RowsOf (length P) model)
   all-settled = settled P (RowsOf (length P) model) (part .sound) (λ r l. fresh r l .row)
@@ -35,35 +25,11 @@ module _ (P : Program) (before model names : List ℕ) (part : Partly P before m
   pub ring-told : (r x : ℕ) → r < length P → Ring P r x → RingByte model r
   ring-told r x l h = fresh r l .ring x (all-settled .ring-from r x h)
 
-  module _ (r a b : ℕ) (l : r < length P) (la : a < row-names) (lb : b < row-names) where
-    place : row-bytes * r + (row-names * a + b) ≡ 65 * r + 8 * a + b
-    place = omega arith
-
-    abbrev v : ℕ
-    v = getD model (65 * r + 8 * a + b) 0
-
-    -- a bit of the cell, for the label that it stands for
-    cell-flag : (k : ℕ) (m : Label) → (v / 2 ^ k % 2 ≡ 1 → Labelled v m) → (Labelled v m → v / 2 ^ k % 2 ≡ 1)
-        → Flag (v / 2 ^ k % 2) (Row P r a b m)
-    cell-flag k m f g = bit-flag (v / 2 ^ k % 2) (Row P r a b m) (omega arith)
-        (λ e. all-settled .row-to r a b m (l, (la, lb, f e)))
-        (λ h. g (all-settled .row-from r a b m h .1 .2))
-
-    small : v < 8
-    small =
-        let e : 65 * r + (8 * a + b) ≡ 65 * r + 8 * a + b = omega arith in
-        subst (λ (i : ℕ). getD model i 0 < 8) e (part .shaped r l .cells (8 * a + b) (omega arith))
-
-    is-cell : Cell P r a b (getD model (row-bytes * r + (row-names * a + b)) 0)
-    is-cell = subst (λ (i : ℕ). Cell P r a b (getD model i 0)) (sym place) (record {
-      one = v / 2 ^ 0 % 2;
-      two = v / 2 ^ 1 % 2;
-      four = v / 2 ^ 2 % 2;
-      sum = let s = small in omega arith;
-      by-own = cell-flag 0 own (λ e. e) (λ e. e);
-      by-unknown = cell-flag 1 unknown (λ e. e) (λ e. e);
-      by-several = cell-flag 2 several (λ e. e) (λ e. e);
-    })
+  is-cell : (r a b : ℕ) → r < length P → a < row-names → b < row-names
+      → Cell P r a b (getD model (row-bytes * r + (row-names * a + b)) 0)
+  is-cell r a b l la lb =
+      cell-at model r a b la lb (part .shaped r l) (Row P r a b) (λ m h. all-settled .row-to r a b m (l, h))
+      (λ m w. all-settled .row-from r a b m w .1)
 
   pub are-models : Models P model
   are-models = record { cells = is-cell; last = last }

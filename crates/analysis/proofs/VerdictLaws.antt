@@ -18,19 +18,22 @@ use Rattle.rules.specs.laws.Share.{count-some}
 use Rattle.run.specs.laws.Safety.{clear-is-safe}
 use Rattle.grid.specs.Rows.{Has, Bits}
 use Rattle.grid.specs.laws.Masks.{has-zero, bits-map, bits-beyond}
-use Rattle.rows.specs.Model.{RingByte}
+use Rattle.rows.specs.Bytes.{RingByte}
 use Rattle.analysis.specs.Answer.{Says, Shares, Short}
 use Rattle.analysis.specs.declared.Share.{Share}
 use Rattle.analysis.specs.declared.Verdict.{Verdict}
 use Rattle.analysis.specs.declared.Verdict.the-variants.{Clear, Ring}
-use Rattle.analysis.specs.laws.Reach.{Reachable, CanReach}
-use Rattle.analysis.specs.laws.Due.{Callers}
+use Rattle.settle.specs.Reach.{Reachable, CanReach}
+use Rattle.settle.specs.Due.{Callers}
 use Rattle.analysis.specs.laws.Judging.{RingRows, Tells, Divided}
-use Rattle.analysis.specs.laws.Settle.{Partly}
-use Rattle.analysis.specs.laws.Bodies.{Known, Finished, Pronounces, Settled}
-use Rattle.analysis.specs.laws.Bodies.{Linked, CanSettle, CanJudgeKnown, JudgesKnown}
+use Rattle.settle.specs.Settle.{AllFresh}
+use Rattle.settle.specs.Bodies.{Known, Settled}
+use Rattle.analysis.specs.laws.Judges.{Finished, Pronounces}
+use Rattle.settle.specs.Bodies.{CanSettle}
+use Rattle.analysis.specs.laws.Judges.{CanJudgeKnown, JudgesKnown}
 use Rattle.analysis.proofs.ModelLaws.{are-models, ring-told, no-ring, ring-at}
-use Rattle.analysis.proofs.BodyLaws.{reached-bits}
+use Rattle.settle.specs.laws.Starts.{reached-bits}
+use Rattle.settle.specs.laws.Links.{linked}
 use Rattle.analysis.proofs.JudgingLaws.{count-bits}
 
 module _ (calls model names : List ℕ) where
@@ -41,12 +44,12 @@ module _ (calls model names : List ℕ) where
       let g = fin .long in
       (omega arith, omega arith)
 
-  pub can-reach : Finished calls model names → CanReach calls
+  pub can-reach : Finished calls model names → CanReach calls 0
   can-reach fin =
       let e = fin .known .surveyed .calls-long in
       let wf = well-formed (fin .program) (fin .known .holds .limits) in
       record {
-        some = let l = wf .some-routine in omega arith;
+        there = let l = wf .some-routine in omega arith;
         few = rows-there fin .0;
         within = λ r q c.
             let l : r < length calls = c .0 in
@@ -56,10 +59,10 @@ module _ (calls model names : List ℕ) where
       }
 
   -- what the masks of the reached routines, and of those of them with a ring, tell of a program that was surveyed
-  module _ (reached rings : ℕ) (reach : Bits reached (Reachable calls))
+  module _ (reached rings : ℕ) (reach : Bits reached (Reachable calls 0))
       (found : RingRows model (length calls) reached rings) where
     module _ (P : Program) (ks s starts before : List ℕ) (known : Known P ks s starts calls)
-        (part : Partly P before model names (λ r. ⊥)) where
+        (part : AllFresh P before model names) where
       formed : WellFormed P
       formed = well-formed P (known .holds .limits)
 
@@ -129,7 +132,7 @@ module _ (calls model names : List ℕ) where
       -- there is a reached routine to divide by
       pub some-counted : Finished calls model names → 0 < ones reached
       some-counted fin =
-          some-reached (fin .program) (fin .ks) (fin .s) (fin .starts) (fin .before) (fin .known) (fin .partly) low lows
+          some-reached (fin .program) (fin .ks) (fin .s) (fin .starts) (fin .before) (fin .known) (fin .fresh) low lows
 
       -- the verdict and the share are those of the program
       pub pronounced : (c m : ℕ) (verdict : Verdict) (share : Share)
@@ -146,27 +149,16 @@ few-calls ks s starts calls model p =
     omega arith
 
 module _ (ks s starts calls callers : List ℕ) (turned : Callers calls callers) where
-  linked : (P : Program) → Known P ks s starts calls → Linked P ks s starts callers
-  linked P known =
-      let e = known .surveyed .calls-long in
-      record {
-        holds = known .holds;
-        start = known .surveyed .start;
-        starts-long = known .surveyed .starts-long;
-        callers-of = λ r q l w. turned .told q r (omega arith, known .surveyed .calls-from q r l w);
-        callers-below = rw e at (turned .below);
-      }
-
   pub can-settle : (model : List ℕ) → CanJudgeKnown ks s starts calls model → CanSettle ks s starts callers model
   can-settle model p =
-      record { program = p .program; linked = linked (p .program) (p .known); long = p .long }
+      record { program = p .program; linked = linked ks s starts calls callers turned (p .program) (p .known); long = p .long }
 
   -- what the judgement leaves
   module _ (before after names : List ℕ) (settled : Settled ks s starts callers before after names) where
     pub judged-known : (verdict : Verdict) (share : Share) → Pronounces calls after names verdict share
         → JudgesKnown ks s starts calls before after verdict share
     judged-known verdict share pr P known l =
-        let part = settled P (linked P known) l in
+        let part = settled P (linked ks s starts calls callers turned P known) l in
         let says = pr P ks s starts before known part in (
           record {
             model = are-models P before after names part;
@@ -191,5 +183,5 @@ module _ (ks s starts calls callers : List ℕ) (turned : Callers calls callers)
           known = p .known;
           long = omega arith;
           before = before;
-          partly = settled (p .program) (linked (p .program) (p .known)) l;
+          fresh = settled (p .program) (linked ks s starts calls callers turned (p .program) (p .known)) l;
         }

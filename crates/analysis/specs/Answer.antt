@@ -4,13 +4,14 @@ use mathlib.Core.Logic.{_⊎_}
 use mathlib.Core.List.{List}
 use Prim.Native.Nat.{ℕ, _+_, _*_, _≤_, _<_}
 use lib.ListN.{length, getD}
-use Rattle.table.specs.Constants.{most-routines, most-names, row-names, row-cells, row-bytes}
+use Rattle.table.specs.Constants.{most-routines, most-names, row-names, row-bytes}
 use Rattle.table.specs.Program.{Program}
 use Rattle.table.specs.Check.{refused, accepted, checkTable}
-use Rattle.rules.specs.Label.{own, unknown, several}
+use Rattle.rules.specs.Label.{Label, own, unknown, several}
 use Rattle.rules.specs.Model.{Row, Ring}
 use Rattle.rules.specs.Verdict.{Clear, RingAt}
 use Rattle.rules.specs.Share.{ShareOf}
+use Rattle.rows.specs.Bytes.{cellByte, lastByte}
 use Rattle.run.specs.Run.{start, run, Turn, Safe}
 use Rattle.analysis.specs.declared.Verdict.{Verdict}
 use Rattle.analysis.specs.declared.Verdict.the-variants.{Clear as SaysClear, Ring as SaysRing}
@@ -26,22 +27,26 @@ short-buffer = 15
 abbrev pub Flag : ℕ → Type 0 → Type 0
 Flag v Q = ((v ≡ 1) × Q) ⊎ ((v ≡ 0) × ¬ Q)
 
--- v is the byte of cell (a, b) in the row of routine r: 1 for own, 2 for unknown and 4 for several, added up
-pub record Cell (P : Program) (r a b v : ℕ) : Type 0 where
+-- v is the byte of a cell that has the labels L: 1 for own, 2 for unknown and 4 for several, added up
+pub record CellOf (L : Label → Type 0) (v : ℕ) : Type 0 where
   pub one : ℕ
   pub two : ℕ
   pub four : ℕ
   pub sum : v ≡ one + 2 * two + 4 * four
-  pub by-own : Flag one (Row P r a b own)
-  pub by-unknown : Flag two (Row P r a b unknown)
-  pub by-several : Flag four (Row P r a b several)
+  pub by-own : Flag one (L own)
+  pub by-unknown : Flag two (L unknown)
+  pub by-several : Flag four (L several)
+
+-- v is the byte of cell (a, b) in the row of routine r
+abbrev pub Cell : Program → ℕ → ℕ → ℕ → ℕ → Type 0
+Cell P r a b = CellOf (Row P r a b)
 
 -- the buffer begins with the rows of the least model of P
 pub record Models (P : Program) (model : List ℕ) : Type 0 where
   pub cells : (r a b : ℕ) → r < length P → a < row-names → b < row-names
-      → Cell P r a b (getD model (row-bytes * r + (row-names * a + b)) 0)
+      → Cell P r a b (cellByte model r a b)
   pub last : (r : ℕ) → r < length P
-      → Flag (getD model (row-bytes * r + row-cells) 0) ((x : ℕ) × Ring P r x)
+      → Flag (lastByte model r) ((x : ℕ) × Ring P r x)
 
 -- what the verdict says of P
 abbrev pub Says : Program → Verdict → Type 0

@@ -1,7 +1,5 @@
-pub mod Reach
-pub mod Due
+pub mod Bytes
 pub mod Judging
-pub mod Settle
-pub mod Bodies
+pub mod Judges
 pub mod Unique
 pub mod LastBytes

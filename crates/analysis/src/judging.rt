@@ -5,11 +5,11 @@ ghost use lib.Count.{ones};
 ghost use lib.ListN.{length};
 ghost use Rattle.table.specs.Constants.{most-routines, row-bytes};
 ghost use Rattle.analysis.specs.laws.Judging.{Divided, Lowest, RingRows, Tells};
-ghost use Rattle.analysis.specs.laws.Bodies.{Finished, Pronounces};
+ghost use Rattle.analysis.specs.laws.Judges.{Finished, Pronounces};
 use crate::RingPlace;
 use crate::Share;
 use crate::Verdict;
-use crate::reach;
+use settle::reach::reached;
 use table::limits::MOST_ROUTINES;
 use table::limits::ROW_BYTES;
 use table::limits::ROW_CELLS;
@@ -85,11 +85,11 @@ pub fn judgement_of(calls: &[u64], model: &[u8], names: [u8; MOST_ROUTINES]) -> 
     requires { ⌜ Finished (now calls) (now model) names ⌝ }
     ensures { λ j. ⌜ Pronounces (now (calls .entry)) (now (model .entry)) names (j .verdict) (j .share) ⌝ }
 {
-    let reached = reach::reached(calls);
-    let rings = ring_rows(model, calls.len(), reached);
-    let ringless = (reached | rings) ^ rings;
+    let mask = reached(calls, 0);
+    let rings = ring_rows(model, calls.len(), mask);
+    let ringless = (mask | rings) ^ rings;
     let verdict = verdict_of(rings, names);
-    let share = share_of(count(ringless), count(reached));
+    let share = share_of(count(ringless), count(mask));
     Judgement {
         verdict: verdict,
         share: share,

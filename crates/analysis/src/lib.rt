@@ -4,17 +4,15 @@ ghost use Prim.Native.Nat.{_<_};
 ghost use Rattle.table.specs.Check.{checkTable};
 ghost use Rattle.table.specs.Answer.{checkNumber, checkedOf};
 ghost use Rattle.analysis.specs.Answer.{Analysed, AnalysedAs, Fits, Short, verdictNumber};
-ghost use Rattle.analysis.specs.laws.Bodies.{CanJudgeKnown, JudgesKnown, CanJudge, Judges};
+ghost use Rattle.analysis.specs.laws.Judges.{CanJudgeKnown, JudgesKnown, CanJudge, Judges};
 
-mod due;
 mod judging;
-mod reach;
-mod settle;
-mod survey;
 
 use judging::Judgement;
 use judging::judgement_of;
-use survey::survey_bodies;
+use settle::due::add_callers;
+use settle::settle;
+use settle::survey::survey_bodies;
 use table::Checked;
 use table::check;
 use table::limits::MOST_ROUTINES;
@@ -61,8 +59,8 @@ fn judge_surveyed(
         (now (model .entry)) (now (model .exit)) (j .verdict) (j .share) ⌝ }
 {
     let mut callers = [0u64; MOST_ROUTINES];
-    due::add_callers(calls, &mut callers);
-    let names = settle::settle(ks, s, starts, &callers, model);
+    add_callers(calls, &mut callers);
+    let names = settle(ks, s, starts, &callers, model);
     judgement_of(calls, model, names)
 }
 

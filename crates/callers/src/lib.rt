@@ -7,6 +7,8 @@ ghost use Rattle.analysis.specs.Answer.{Analysed, AnalysedAs, Fits};
 ghost use Rattle.listing.specs.Text.{Listed};
 ghost use Rattle.runner.specs.Answer.{Runs, Reports};
 ghost use Rattle.runner.specs.Desk.{RunsFresh};
+ghost use Rattle.update.specs.Answer.{Replaced, ReplacedAs};
+ghost use Rattle.update.specs.Answer.{Fits as UpdateFits};
 ghost use Rattle.callers.specs.Calls.{clear?, stuck?};
 ghost use mathlib.Core.Bool.{false};
 use analysis::Answer;
@@ -24,6 +26,9 @@ use runner::vangpear_run;
 use steps::thread::Thread;
 use table::Checked;
 use table::check;
+use update::Updated;
+use update::update;
+use update::vangpear_update;
 
 // Calls `check`.
 pub fn checked(table: &[u8]) -> Checked
@@ -84,6 +89,23 @@ pub fn ran_for_c(table: &[u8], schedule: &[u8], records: &mut [Thread]) -> Repor
         (now (records .exit)) r ⌝ }
 {
     vangpear_run(table, schedule, records)
+}
+
+// Calls `update`.
+pub fn brought(old: &[u8], new: &[u8], routine: u64, model: &mut [u8]) -> Updated
+    ensures replaced { λ a. ⌜ Replaced (now (old .entry)) (now (new .entry)) routine (now (model .entry))
+        (now (model .exit)) a ⌝ }
+    ensures fits { λ a. ⌜ UpdateFits a ⌝ }
+{
+    update(old, new, routine, model)
+}
+
+// Calls `vangpear_update`.
+pub fn brought_for_c(old: &[u8], new: &[u8], routine: u64, model: &mut [u8]) -> u32
+    ensures { λ n. ⌜ ReplacedAs (now (old .entry)) (now (new .entry)) routine (now (model .entry))
+        (now (model .exit)) n ⌝ }
+{
+    vangpear_update(old, new, routine, model)
 }
 
 // Whether an answer is that the table is clear.

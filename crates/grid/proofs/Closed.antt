@@ -8,7 +8,7 @@ use lib.ListN.{getD}
 use Rattle.rules.specs.Label.{Label, own, forked, unknown, several, combine}
 use Rattle.rules.specs.Number.{number, labelOf, labels}
 use Rattle.rules.specs.Model.{Kept}
-use Rattle.rules.specs.laws.Closure.{Closed, given, follows}
+use Rattle.rules.specs.Derived.{Closed, given, follows}
 use Rattle.rules.specs.laws.Number.{label-of-number, number-lt}
 use Rattle.grid.specs.Rows.{Has, Edge, SomeRow, Walk, Same, Bits}
 use Rattle.grid.specs.Grid.{cell, Pair, Small, AllKept, Closure}

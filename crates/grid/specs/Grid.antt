@@ -8,7 +8,7 @@ use Rattle.table.specs.Constants.{most-names}
 use Rattle.rules.specs.Label.{Label, several}
 use Rattle.rules.specs.Number.{number, labelOf, labels}
 use Rattle.rules.specs.Model.{Kept}
-use Rattle.rules.specs.laws.Closure.{Closed}
+use Rattle.rules.specs.Derived.{Closed}
 use Rattle.grid.specs.Rows.{Has}
 
 -- the mask of row a, column b

@@ -22,7 +22,7 @@ use Rattle.grid.specs.laws.Masks.{below-bits, bits-or, bits-one, bits-shl}
 use Rattle.grid.specs.laws.Labels.{not-several, in-one, one-in}
 use Rattle.pairs.specs.Walks.{heldBy, rootOf, inNest, holderUnder}
 use Rattle.pairs.specs.Gains.{HoldersGive, CallGives, Gains, namesAt, rootsAt, LowAt, MaskGives, Placed}
-use Rattle.rows.specs.Model.{Labelled, RowBits}
+use Rattle.rows.specs.Bytes.{Labelled, RowBits}
 use Rattle.rows.specs.laws.Cells.{no-label}
 use Rattle.pairs.specs.Gains.{Below, CellGives, LineGives, RowGives, RowReady, CallReady}
 use Rattle.pairs.proofs.Pending.{LockGives}

@@ -6,7 +6,7 @@ use Prim.Native.Nat.{ℕ}
 use Rattle.table.specs.Program.{Code, end, new, lock, fork, choice, call, mirror}
 use Rattle.rules.specs.Label.{Label}
 use Rattle.rules.specs.Model.{Place}
-use Rattle.rules.specs.laws.Satisfies.{Pairs}
+use Rattle.rules.specs.Derived.{Pairs}
 use Rattle.pairs.proofs.Pending.{Alternative, other, Level, level, past}
 use Rattle.pairs.proofs.Pending.{InLeft, AtItem, InParts}
 use Rattle.pairs.proofs.Pending.{CallIn, CallAt, PairIn, PairAt}

@@ -14,7 +14,7 @@ use Rattle.rules.specs.Label.{Label}
 use Rattle.rules.specs.Model.{Place, naming, underLock, underFork}
 use Rattle.rules.specs.Number.{labelOf}
 use Rattle.rules.specs.Verdict.{Calls}
-use Rattle.rules.specs.laws.Satisfies.{Pairs, RecordedFrom}
+use Rattle.rules.specs.Derived.{Pairs, RecordedFrom}
 use Rattle.grid.specs.Rows.{Bits}
 use Rattle.table.specs.laws.Fine.{Calling, Uses}
 use Rattle.pairs.specs.Walks.{heldBy, rootOf}

@@ -15,14 +15,14 @@ use Rattle.table.specs.Encoding.{encode}
 use Rattle.rules.specs.Label.{Label}
 use Rattle.rules.specs.Number.{labelOf}
 use Rattle.rules.specs.Model.{Kept, Place, atHead}
-use Rattle.rules.specs.laws.Satisfies.{Pairs, RecordedFrom}
+use Rattle.rules.specs.Derived.{Pairs, RecordedFrom}
 use Rattle.grid.specs.Rows.{Has}
 use Rattle.grid.specs.Grid.{Pair, Small, AllKept}
 use Rattle.table.specs.laws.Fine.{Fine, IsBody}
 use Rattle.pairs.specs.Walks.{Walk, Ready, heldBy, byteOf, argOf, holderOf, threadOf, nestOf, rootOf, Selves}
 use Rattle.pairs.specs.Walks.{holderUnder, holderInside, startWalk, movedWalk, nextWalk, LockReady}
 use Rattle.pairs.specs.Gains.{Gains, HoldersGive, CallGives, Low, LowAt, namesAt, rootsAt, CallReady}
-use Rattle.rows.specs.Model.{RowBits}
+use Rattle.rows.specs.Bytes.{RowBits}
 use Rattle.pairs.proofs.Pending.{Alternative, Level, level, bytes, secondBytes, closer, past, Left, InLeft}
 use Rattle.pairs.proofs.Pending.{AtItem, PairIn, PairAt, LockGives, Shows}
 use Rattle.pairs.specs.Contracts.{Records}

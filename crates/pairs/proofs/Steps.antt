@@ -16,7 +16,7 @@ use Rattle.table.specs.Program.{Code, end, new, lock, fork, choice, call, mirro
 use Rattle.table.specs.Encoding.{encode}
 use Rattle.rules.specs.Label.{Label}
 use Rattle.rules.specs.Model.{Place, atHead}
-use Rattle.rules.specs.laws.Satisfies.{Pairs}
+use Rattle.rules.specs.Derived.{Pairs}
 use Rattle.table.specs.laws.Fine.{Fine}
 use Rattle.pairs.specs.Walks.{Walk, byteOf, RoomAt, Ready, passedBy, walkBy, nextWalk, pastBy, pastItem, topBy}
 use Rattle.pairs.specs.Walks.{Passable, LevelReady}

@@ -9,8 +9,8 @@ use Rattle.table.specs.Constants.{most-params, most-forks, most-names, row-name
 use Rattle.rules.specs.Label.{Label, placed}
 use Rattle.rules.specs.Number.{labelOf, labels}
 use Rattle.rules.specs.Model.{Kept, renamed}
-use Rattle.rules.specs.laws.Satisfies.{Pairs}
-use Rattle.rows.specs.Model.{Labelled}
+use Rattle.rules.specs.Derived.{Pairs}
+use Rattle.rows.specs.Bytes.{Labelled}
 use Rattle.grid.specs.Grid.{In, Pair, Small, AllKept}
 use Rattle.pairs.specs.Walks.{rootOf}
 

@@ -8,7 +8,7 @@ ghost use Rattle.rules.specs.Model as model;
 ghost use Rattle.grid.specs.Grid.{Small, Square};
 ghost use Rattle.pairs.specs.Walks.{heldBy};
 ghost use Rattle.pairs.specs.Gains.{Gains, HoldersGive, CallGives, MaskGives, Placed, LowAt, rootsAt};
-ghost use Rattle.rows.specs.Model.{RowBits};
+ghost use Rattle.rows.specs.Bytes.{RowBits};
 ghost use Rattle.pairs.specs.Gains.{CallReady, RowReady, LineGives, RowGives};
 use crate::walk::NOTHING;
 use crate::walk::root_of;

@@ -12,7 +12,7 @@ use Rattle.rules.specs.Number.{number, labelOf, labels}
 use Rattle.rules.specs.laws.Number.{LabelCase, is-own, is-fork, is-unknown, is-several, label-case}
 use Rattle.grid.specs.laws.Masks.{has-below, below-bits}
 use Rattle.grid.specs.Rows.{Has, Bits}
-use Rattle.rows.specs.Model.{Labelled}
+use Rattle.rows.specs.Bytes.{Labelled}
 use Rattle.rows.specs.Added.{bitOf, CellBit}
 
 mod-suc : (f x : ℕ) → x % 2 ^ suc f ≡ x / 2 ^ f % 2 * 2 ^ f + x % 2 ^ f

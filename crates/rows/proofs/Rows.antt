@@ -10,7 +10,8 @@ use lib.ListN.{getD}
 use Rattle.rules.specs.Label.{Label, cut}
 use Rattle.grid.specs.Rows.{Has, Rel}
 use Rattle.grid.specs.Grid.{Pair}
-use Rattle.rows.specs.Model.{RowBits, RingByte, ShapedRow, GridRow, HasRing, RowAdded}
+use Rattle.rows.specs.Bytes.{RowBits, RingByte}
+use Rattle.rows.specs.Model.{ShapedRow, GridRow, HasRing, RowAdded}
 use Rattle.rows.specs.Added.{bitOf, AtRing, InGrid, Added}
 use Rattle.rows.proofs.Masks.{bit-lt, cut-bit, labelled-has, has-labelled}
 use Rattle.grid.specs.laws.Masks.{has-below, below-bits}

@@ -5,26 +5,10 @@ use mathlib.Core.Bool.{Bool, true, false}
 use mathlib.Core.List.{List, [], _∷_}
 use Prim.Native.Nat.{ℕ, _+_, _*_, _<_, _≤_}
 use lib.ListN.{getD, length}
-use Rattle.table.specs.Constants.{row-names, row-cells, row-bytes}
-use Rattle.rules.specs.Label.{Label, own, forked, unknown, several, cut}
-use Rattle.rules.specs.laws.Satisfies.{Pairs}
-use Rattle.grid.specs.Rows.{Has}
+use Rattle.table.specs.Constants.{row-cells, row-bytes}
+use Rattle.rules.specs.Label.{Label, several, cut}
 use Rattle.grid.specs.Grid.{Pair}
-
--- a cell's byte has the label: 1 own, 2 unknown, 4 several
-abbrev pub Labelled : ℕ → Label → Type 0
-Labelled m own = Has m 0
-Labelled m (forked i) = ⊥
-Labelled m unknown = Has m 1
-Labelled m several = Has m 2
-
--- the rows in a buffer: cell 8 * a + b of the row of routine r has the labels of (a, b)
-abbrev pub RowBits : List ℕ → Pairs
-RowBits rows r a b l = (a < row-names) × (b < row-names) × Labelled (getD rows (row-bytes * r + row-names * a + b) 0) l
-
--- the last byte of the row of routine r says that there is a ring
-abbrev pub RingByte : List ℕ → ℕ → Type 0
-RingByte rows r = getD rows (row-bytes * r + row-cells) 0 ≡ 1
+use Rattle.rows.specs.Bytes.{RowBits, RingByte}
 
 -- the row of routine r: each cell has labels alone, and the last byte is 0 or 1
 pub record ShapedRow (rows : List ℕ) (r : ℕ) : Type 0 where
@@ -67,8 +51,8 @@ pub record RowAdded (before after : List ℕ) (r k : ℕ) (g : List (List ℕ)) 
   pub shaped : (n : ℕ) → Shaped n before → Shaped n after
   pub told : Moves changed before after
 
--- after is before with the bytes below end zero
-pub record Cleared (end : ℕ) (before after : List ℕ) : Type 0 where
+-- after is before with the bytes from start to end zero
+pub record Cleared (start end : ℕ) (before after : List ℕ) : Type 0 where
   pub long : length after ≡ length before
-  pub zero : (i : ℕ) → i < end → getD after i 0 ≡ 0
-  pub rest : (i : ℕ) → end ≤ i → getD after i 0 ≡ getD before i 0
+  pub zero : (i : ℕ) → start ≤ i → i < end → getD after i 0 ≡ 0
+  pub rest : (i : ℕ) → (i < start) ⊎ (end ≤ i) → getD after i 0 ≡ getD before i 0

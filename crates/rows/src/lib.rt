@@ -104,12 +104,12 @@ pub fn with_row(model: &mut [u8], r: usize, k: usize, g: Grid) -> bool
     pairs | ring
 }
 
-// Sets the bytes below end to zero.
-pub fn clear_rows(model: &mut [u8], end: usize)
-    requires { ⌜ end ≤ length (now model) ⌝ }
-    ensures { λ _. ⌜ Cleared end (now (model .entry)) (now (model .exit)) ⌝ }
+// Sets the bytes from start to end to zero.
+pub fn clear(model: &mut [u8], start: usize, end: usize)
+    requires { ⌜ (start ≤ end) × (end ≤ length (now model)) ⌝ }
+    ensures { λ _. ⌜ Cleared start end (now (model .entry)) (now (model .exit)) ⌝ }
 {
-    for i in 0..end {
+    for i in start..end {
         model[i] = 0;
     }
 }

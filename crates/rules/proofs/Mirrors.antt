@@ -9,7 +9,7 @@ use Rattle.table.specs.Program.{Code, end, new, lock, fork, call, mirror, Progr
 use Rattle.rules.specs.Label.{Label, own, forked, several}
 use Rattle.rules.specs.Model.{Row}
 use Rattle.rules.specs.Verdict.{Clear, RingAt}
-use Rattle.rules.specs.laws.Satisfies.{Pairs, RowOf}
+use Rattle.rules.specs.Derived.{Pairs, RowOf}
 use Rattle.rules.specs.laws.Certificate.{pair, is-row}
 use Rattle.rules.specs.laws.Older.{SatisfiesBy, ModelBy}
 use Rattle.rules.specs.laws.Before104.{Unmirrored, ClearBefore, clear-before}

@@ -12,7 +12,7 @@ use Rattle.rules.specs.Label.{Label, own, forked, several}
 use Rattle.rules.specs.Model.{Kept, atHead, Recorded}
 use Rattle.rules.specs.Verdict.{Clear, RingAt}
 use Rattle.rules.specs.laws.Lists.{Found}
-use Rattle.rules.specs.laws.Satisfies.{Pairs, RowOf}
+use Rattle.rules.specs.Derived.{Pairs, RowOf}
 use Rattle.rules.specs.laws.Certificate.{Pair, pair, recordedOf, settled?, is-recorded-by}
 use Rattle.rules.specs.laws.Older.{RecordedBy, ModelBy, ClearBy}
 use Rattle.rules.specs.laws.Before101.{never, FirstTakings, same-before}

@@ -2,6 +2,7 @@
 pub mod Label
 pub mod Number
 pub mod Model
+pub mod Derived
 pub mod Verdict
 pub mod Share
 pub mod laws

@@ -18,11 +18,11 @@
 //! Needs the feature `archive`.
 
 use std::collections::BTreeMap;
-use std::env;
 use std::process::ExitCode;
 
 use reference::archive;
 use reference::cases::{rules, worked};
+use reference::command;
 use reference::generate::{boundaries, random, Rng, KINDS};
 use reference::limits::CHECK_ROUTINE;
 use reference::{check_number, hex};
@@ -325,24 +325,11 @@ fn run(seed: u64, count: u64) -> Result<String, String> {
 }
 
 fn main() -> ExitCode {
-    let arguments: Result<Vec<u64>, _> = env::args().skip(1).map(|word| word.parse()).collect();
-    let (seed, count) = match arguments.as_deref() {
-        Ok([]) => (DEFAULT_SEED, DEFAULT_COUNT),
-        Ok([seed]) => (*seed, DEFAULT_COUNT),
-        Ok([seed, count]) => (*seed, *count),
-        _ => {
+    match command::seed_and_count(DEFAULT_SEED, DEFAULT_COUNT) {
+        Some((seed, count)) => command::end(run(seed, count)),
+        None => {
             eprintln!("usage: compare [SEED [COUNT]]");
-            return ExitCode::from(2);
-        }
-    };
-    match run(seed, count) {
-        Ok(summary) => {
-            println!("{summary}");
-            ExitCode::SUCCESS
-        }
-        Err(difference) => {
-            println!("{difference}");
-            ExitCode::FAILURE
+            ExitCode::from(command::MISUSED)
         }
     }
 }

@@ -16,6 +16,7 @@ use std::process::{ChildStdin, Command, ExitCode, Stdio};
 use std::sync::atomic::{AtomicBool, AtomicU64, Ordering};
 use std::thread;
 
+use reference::command;
 use reference::desk::{desk, text};
 use reference::hex;
 use reference::schedules::{input, marks, MARKS};
@@ -142,21 +143,12 @@ fn main() -> ExitCode {
     let arguments: Vec<String> = env::args().skip(1).collect();
     let [program, seed, count] = arguments.as_slice() else {
         eprintln!("{USAGE}");
-        return ExitCode::from(2);
+        return ExitCode::from(command::MISUSED);
     };
     let (Ok(seed), Ok(count)) = (seed.parse(), count.parse()) else {
         eprintln!("{USAGE}");
-        return ExitCode::from(2);
+        return ExitCode::from(command::MISUSED);
     };
     let program = Some(program.as_str()).filter(|&program| program != "--self");
-    match run(program, seed, count) {
-        Ok(summary) => {
-            println!("{summary}");
-            ExitCode::SUCCESS
-        }
-        Err(difference) => {
-            println!("{difference}");
-            ExitCode::FAILURE
-        }
-    }
+    command::end(run(program, seed, count))
 }

@@ -1,7 +1,8 @@
 -- `judge` meets its contract: the bodies are surveyed, and then judged.
 use mathlib.Core.Path.{refl}
 use native.Mathlib.Omega.{arith}
-use Rattle.analysis.proofs.SurveyLaws.{few, cut-surveyed}
+use Rattle.table.specs.laws.Sections.{few}
+use Rattle.settle.specs.laws.Surveys.{cut-surveyed}
 use borrow.Author.Needs.{needs}
 use Rattle.analysis.proofs.judge.Statement.{statement}
 use Rattle.analysis.proofs.judge.Tie as tie

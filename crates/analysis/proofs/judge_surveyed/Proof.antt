@@ -1,5 +1,5 @@
 -- `judge_surveyed` meets its contract: the rows are settled, and the judgement is read off them.
-use Rattle.analysis.proofs.DueLaws.{no-callers}
+use Rattle.settle.specs.laws.Links.{no-callers}
 use Rattle.analysis.proofs.VerdictLaws.{few-calls, can-settle, finished-from, judged-known}
 use borrow.Author.Needs.{needs}
 use Rattle.analysis.proofs.judge_surveyed.Statement.{statement}

@@ -5,7 +5,7 @@ use Prim.Native.Nat.{ℕ, _*_, _/_, _%_, _<_}
 use lib.ListN.{getD}
 use Rattle.table.specs.Constants.{most-routines}
 use Rattle.grid.specs.Rows.{Has, Bits}
-use Rattle.rows.specs.Model.{RingByte}
+use Rattle.rows.specs.Bytes.{RingByte}
 use Rattle.analysis.specs.declared.Share.{Share}
 use Rattle.analysis.specs.declared.Verdict.{Verdict}
 use Rattle.analysis.specs.declared.Verdict.the-variants.{Clear, Ring}

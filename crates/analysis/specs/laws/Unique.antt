@@ -11,7 +11,7 @@ use lib.ListN.{length, getD}
 use lib.Seq.{ext-getD}
 use Rattle.table.specs.Program.{Program}
 use Rattle.table.specs.Check.{Outcome, refused, accepted, checkTable}
-use Rattle.rules.specs.Label.{own, unknown, several}
+use Rattle.rules.specs.Label.{Label, own, unknown, several}
 use Rattle.rules.specs.Model.{Row, Ring}
 use Rattle.rules.specs.laws.Verdict.{ring-at-unique, clear-no-ring}
 use Rattle.rules.specs.laws.Share.{share-unique}
@@ -21,7 +21,7 @@ use Rattle.analysis.specs.declared.Verdict.the-variants.{Clear as SaysCl
 use Rattle.analysis.specs.declared.Answer.{Answer}
 use Rattle.analysis.specs.declared.Answer.the-variants.{Judged, Refused}
 use Rattle.table.specs.Constants.{row-bytes}
-use Rattle.analysis.specs.Answer.{Flag, Cell, Models, Says, Shares, JudgedAs, Analysed, Fits}
+use Rattle.analysis.specs.Answer.{Flag, CellOf, Models, Says, Shares, JudgedAs, Analysed, Fits}
 use Rattle.analysis.specs.Answer.{numberOf, AnalysedAs}
 
 -- a fact has one flag
@@ -32,11 +32,11 @@ flag-unique v w Q (inr p) (inl q) = absurd (p .1 (q .1))
 flag-unique v w Q (inr p) (inr q) = p .0 ∙ sym (q .0)
 
 -- a cell has one byte
-pub cell-unique : (P : Program) (r a b v w : ℕ) → Cell P r a b v → Cell P r a b w → v ≡ w
-cell-unique P r a b v w p q =
-    let e₁ = flag-unique (p .one) (q .one) (Row P r a b own) (p .by-own) (q .by-own) in
-    let e₂ = flag-unique (p .two) (q .two) (Row P r a b unknown) (p .by-unknown) (q .by-unknown) in
-    let e₄ = flag-unique (p .four) (q .four) (Row P r a b several) (p .by-several) (q .by-several) in
+pub cell-unique : (L : Label → Type 0) (v w : ℕ) → CellOf L v → CellOf L w → v ≡ w
+cell-unique L v w p q =
+    let e₁ = flag-unique (p .one) (q .one) (L own) (p .by-own) (q .by-own) in
+    let e₂ = flag-unique (p .two) (q .two) (L unknown) (p .by-unknown) (q .by-unknown) in
+    let e₄ = flag-unique (p .four) (q .four) (L several) (p .by-several) (q .by-several) in
     omega arith
 
 -- the rows of a program have one content
@@ -53,7 +53,7 @@ models-unique P model model′ m m′ i h = at (i / 65) (i % 65) (omega (arith, 
         let s : j % 8 < 8 = mod-lt j (omega arith) in
         let a = j / 8 in
         let b = j % 8 in
-        rw e (cell-unique P r a b (getD model (65 * r + (8 * a + b)) 0) (getD model′ (65 * r + (8 * a + b)) 0)
+        rw e (cell-unique (Row P r a b) (getD model (65 * r + (8 * a + b)) 0) (getD model′ (65 * r + (8 * a + b)) 0)
         (m .cells r a b k (omega arith) s) (m′ .cells r a b k (omega arith) s))
 
     at : (r j : ℕ) → i ≡ 65 * r + j → j < 65 → getD model i 0 ≡ getD model′ i 0

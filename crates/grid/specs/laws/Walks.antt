@@ -7,7 +7,7 @@ use native.Mathlib.Decide.{ℕ-discrete}
 use native.Mathlib.Omega.{arith}
 use Rattle.rules.specs.Label.{Label, own, forked, unknown, several, combine}
 use Rattle.rules.specs.Model.{Kept}
-use Rattle.rules.specs.laws.Closure.{Closed, given, follows}
+use Rattle.rules.specs.Derived.{Closed, given, follows}
 use Rattle.rules.specs.laws.Combine.{with-several, other-fork, same-fork}
 use Rattle.grid.specs.Rows.{Rel, Walk, one, more, Star}
 

@@ -1,7 +1,8 @@
 -- `link` meets its contract: the bodies passed so far are linked, and the next is at the offset.
 use Prim.Native.Nat.{_-_, _<_}
 use lib.ListN.{length}
-use Rattle.links.specs.laws.Linking.{Linking, few, linking-start, own-low, can-walk, linking-turn, all-linked}
+use Rattle.table.specs.laws.Sections.{few}
+use Rattle.links.specs.laws.Linking.{Linking, linking-start, own-low, can-walk, linking-turn, all-linked}
 use borrow.Author.Needs.{needs}
 use native.Mathlib.Omega.{arith}
 use Rattle.links.proofs.link.Statement.{statement}

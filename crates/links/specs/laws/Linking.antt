@@ -12,9 +12,9 @@ use borrow.Author.Tests.{eq-eqb}
 use Rattle.table.specs.Constants.{most-bytes, most-routines, most-params}
 use Rattle.table.specs.Program.{Program, body, params}
 use Rattle.table.specs.Encoding.{encodeBodies, counts}
-use Rattle.table.specs.laws.Sound.{counts-length, counts-params}
+use Rattle.table.specs.laws.Sound.{counts-params}
 use Rattle.table.specs.laws.Within.{fine, bodies-from}
-use Rattle.table.specs.laws.Sections.{Holds, Held}
+use Rattle.table.specs.laws.Sections.{Holds, routines, Held, few}
 use Rattle.links.specs.laws.Named.{named}
 use Rattle.links.specs.Lies.{section, Lies}
 use Rattle.links.specs.Walks.{goingBy, begun, Ends, Walks, Linked}
@@ -42,12 +42,6 @@ pub record Linking (ks s heads links : List ℕ) (at r : ℕ) : Type 0 where
   pub first : 1 ≤ r → getD heads 0 0 ≡ 0
 
 module _ (ks s : List ℕ) where
-  routines : (P : Program) → Holds P ks s → length ks ≡ length P
-  routines P h = ap length (h .params-are) ∙ counts-length P
-
-  pub few : Held ks s → length ks ≤ most-routines
-  few p = let e = routines (p .0) (p .1) in let l = p .1 .limits .few-routines in omega (arith, e, l)
-
   pub linking-start : (heads links : List ℕ) → length heads ≡ most-routines → length links ≡ most-bytes
       → Linking ks s heads links 0 0
   linking-start heads links e f = record {
@@ -72,7 +66,7 @@ module _ (ks s : List ℕ) where
         (suc r) P)) fit
       where
         low : r < length P
-        low = let e = routines P h in omega (arith, e, lt)
+        low = let e = routines P ks s h in omega (arith, e, lt)
 
         own : getD ks r 0 ≡ params P r
         own = ap (λ (l : List ℕ). getD l r 0) (h .params-are) ∙ counts-params P r
@@ -110,7 +104,7 @@ module _ (ks s : List ℕ) where
     own-low p =
         let e : getD ks r 0 ≡ params (p .0) r = ap (λ (l : List ℕ). getD l r 0) (p .1 .params-are) ∙ counts-params
         (p .0) r in
-        let l = routines (p .0) (p .1) in
+        let l = routines (p .0) ks s (p .1) in
         let a = p .1 .limits .fits r (omega (arith, l, lt)) .few-params in
         omega (arith, e, a)
 
@@ -139,7 +133,7 @@ module _ (ks s : List ℕ) where
     }
       where
         inside : r < length heads
-        inside = let f = few p in let g = k .heads-long in omega (arith, f, g, lt)
+        inside = let f = few ks s p in let g = k .heads-long in omega (arith, f, g, lt)
 
         zeroth : Dec (r ≡ 0) → getD (set heads r at) 0 0 ≡ 0
         zeroth (yes e) =
@@ -186,7 +180,7 @@ module _ (ks s : List ℕ) where
   pub all-linked : (heads links : List ℕ) (at r : ℕ) → Linking ks s heads links at r → length ks ≤ r
       → Links ks s heads links
   all-linked heads links at r k h P held =
-      let e = routines P held in
+      let e = routines P ks s held in
       let l = held .limits .some-routine in (
         (λ bs q less. let t = k .linked P held q (omega (arith, less, h)) in (
           t .0,

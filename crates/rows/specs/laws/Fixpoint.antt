@@ -1,27 +1,21 @@
 -- The least model as a fixpoint over rows: rows that are sound stay sound when a routine's row is worked out anew, and
 -- sound rows in which each routine is up to date are the model's rows.
-use mathlib.Core.Path.{_≡_, refl, subst}
-use mathlib.Core.Logic.{_≢_, _⊎_, inl, inr, ⊎-elim}
+use mathlib.Core.Path.{refl}
+use mathlib.Core.Logic.{_≢_, inl, inr}
 use Prim.Native.Nat.{ℕ, _<_, _≤_}
 use native.Mathlib.Decide.{decLt}
 use native.Mathlib.Omega.{arith}
-use lib.ListN.{length, List·getD-eq-default}
-use Rattle.table.specs.Program.{Code, end, new, lock, fork, choice, call, mirror, Routine, Program, empty}
+use lib.ListN.{length}
+use Rattle.table.specs.laws.Lists.{body-listed}
+use Rattle.table.specs.Program.{Code, end, new, lock, fork, choice, call, mirror, Program}
 use Rattle.table.specs.Program.{params, body}
 use Rattle.rules.specs.Label.{Label, several, combine, cut}
 use Rattle.rules.specs.Model.{Kept, Place, atHead, naming, underLock, underFork, Model, Row, Ring}
 use Rattle.rules.specs.Verdict.{Calls}
-use Rattle.rules.specs.laws.Satisfies.{Pairs, RecordedFrom, RowOf, Satisfies}
+use Rattle.rules.specs.Derived.{Pairs, RecordedFrom, RowOf, Closed, given, follows, KeptFrom, Derived}
+use Rattle.rules.specs.laws.Satisfies.{Satisfies}
 use Rattle.rules.specs.laws.Least.{recorded-mono, model-satisfies, model-least}
-use Rattle.rules.specs.laws.Closure.{Closed, given, follows, closed-least}
-
--- the kept pairs that a code records as a body, from the rows R
-abbrev pub KeptFrom : Pairs → Code → ℕ → ℕ → Label → Type 0
-KeptFrom R c a b l = RecordedFrom R c atHead a b l × Kept a b l
-
--- the pairs worked out in the body of routine r from the rows R
-abbrev pub Derived : Program → Pairs → Pairs
-Derived P R r a b l = Closed (KeptFrom R (body P r)) a b l
+use Rattle.rules.specs.laws.Closure.{closed-least}
 
 -- the rows R have only pairs of the model's rows
 abbrev pub Sound : Program → Pairs → Type 0
@@ -47,16 +41,6 @@ sound-step P R s r a b l w = closed-least (KeptFrom R (body P r)) (Model P r) ba
     base a b l p =
         model-satisfies P .records r a b l
         (recorded-mono R (RowOf P (Model P)) s (body P r) atHead a b l (p .0)) (p .1)
-
--- rows that add to sound ones a row worked out from them are sound
-pub sound-added :
-    (P : Program) (R S : Pairs) (r : ℕ) → Sound P R
-    → ((q a b : ℕ) (l : Label) → S q a b l → R q a b l ⊎ ((q ≡ r) × RowOf P (Derived P R) r a b l))
-    → Sound P S
-sound-added P R S r s h q a b l w = ⊎-elim (λ p. s q a b l p) (λ p. rw (p .0) (row (p .1))) (h q a b l w)
-  where
-    row : RowOf P (Derived P R) r a b l → Row P r a b l
-    row p = (p .0, sound-step P R s r a b (p .0) (p .1), p .2, p .3, p .4, p .5)
 
 -- a code that calls only routines whose rows S has as well records from S what it records from R
 pub recorded-calls :
@@ -103,17 +87,17 @@ up-to-date-kept P R S r keep back u a b m w ha hb ne =
 
 -- a routine that the program does not have is up to date: its body records nothing
 pub up-to-date-beyond : (P : Program) (R : Pairs) (r : ℕ) → length P ≤ r → UpToDate P R r
-up-to-date-beyond P R r h a b m w ha hb ne = absurd (closed-least (KeptFrom R end)
-    (λ a b l. ⊥) none-given none-follow w′)
+up-to-date-beyond P R r h a b m w ha hb ne =
+    absurd (let l = body-listed P r (λ c. Closed (KeptFrom R c) a b m) none w in omega arith)
   where
-    w′ : Closed (KeptFrom R end) a b m
-    w′ = subst (λ (q : Routine). Closed (KeptFrom R (q .code)) a b m) (List·getD-eq-default P empty h) w
-
     none-given : (a b : ℕ) (l : Label) → KeptFrom R end a b l → ⊥
     none-given a b l p = p .0
 
     none-follow : (a b c : ℕ) (l m : Label) → ⊥ → ⊥ → Kept a c (combine l m) → ⊥
     none-follow a b c l m p q k = p
+
+    none : ¬ Closed (KeptFrom R end) a b m
+    none v = closed-least (KeptFrom R end) (λ a b l. ⊥) none-given none-follow v
 
 module _ (P : Program) (R : Pairs) (current : (r : ℕ) → r < length P → UpToDate P R r) where
   all-current : (r : ℕ) → UpToDate P R r

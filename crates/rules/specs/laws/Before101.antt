@@ -14,7 +14,7 @@ use Rattle.rules.specs.Label.{Label}
 use Rattle.rules.specs.Model.{Place, atHead, naming, nested, underFork, Model}
 use Rattle.rules.specs.Verdict.{Clear}
 use Rattle.rules.specs.laws.Nest.{by-nest}
-use Rattle.rules.specs.laws.Satisfies.{Pairs, RecordedFrom, RowOf}
+use Rattle.rules.specs.Derived.{Pairs, RecordedFrom, RowOf}
 use Rattle.rules.specs.laws.Least.{model-satisfies}
 use Rattle.rules.specs.laws.Older.{Test, RecordedBy, ModelBy, ClearBy, olderPlace, in-older, clear-older}
 

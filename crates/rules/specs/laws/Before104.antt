@@ -19,7 +19,8 @@ use Rattle.rules.specs.Label.{Label, own, forked, placed}
 use Rattle.rules.specs.Model.{renamed, Place, atHead, bind, naming, nested, underLock, underFork, Model}
 use Rattle.rules.specs.Verdict.{Calls, Reached, first as reached-first, then, Clear}
 use Rattle.rules.specs.laws.Nest.{by-bind}
-use Rattle.rules.specs.laws.Satisfies.{Pairs, RecordedFrom, RowOf, Recording, ModelOf, ClearOf}
+use Rattle.rules.specs.Derived.{Pairs, RecordedFrom, RowOf}
+use Rattle.rules.specs.laws.Satisfies.{Recording, ModelOf, ClearOf}
 use Rattle.rules.specs.laws.Least.{recorded-mono, model-satisfies, model-least}
 
 -- a place by the rules without request 104

@@ -15,7 +15,7 @@ use Rattle.rules.specs.Model.{Place, atHead, naming, nested, underLock, 
 use Rattle.rules.specs.Verdict.{Clear}
 use Rattle.rules.specs.laws.Tests.{negated}
 use Rattle.rules.specs.laws.Nest.{is-in}
-use Rattle.rules.specs.laws.Satisfies.{Pairs, RecordedFrom, RowOf}
+use Rattle.rules.specs.Derived.{Pairs, RecordedFrom, RowOf}
 use Rattle.rules.specs.laws.Least.{model-satisfies}
 use Rattle.rules.specs.laws.Older.{Test, underLockBy, RecordedBy, ModelBy, ClearBy, in-older, clear-older}
 use Rattle.rules.specs.laws.Before104.{Unmirrored, Plain, plain-new}

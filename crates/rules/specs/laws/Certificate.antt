@@ -1,5 +1,5 @@
 -- The model of a program as a computed list: each entry is in the model, and a list that is closed has the whole model.
-use mathlib.Core.Path.{_≡_, refl, sym, ap, _∙_, subst}
+use mathlib.Core.Path.{_≡_, refl, sym, ap, _∙_}
 use mathlib.Core.Logic.{_≢_, _⊎_, inl, inr}
 use mathlib.Core.Bool.{Bool, true, false, not, _&&_, _||_}
 use mathlib.Core.List.{List, [], _∷_, _++_, map}
@@ -8,15 +8,17 @@ use Prim.Native.Nat.{ℕ, _≤_, _<_}
 use native.Mathlib.Decide.{decLt}
 use native.Mathlib.Omega.{arith}
 use lib.Dec.{T, eqb, leb}
-use lib.ListN.{length, List·getD-eq-default}
-use Rattle.table.specs.Program.{Code, end, new, lock, fork, choice, call, mirror, Routine, Program, empty}
+use lib.ListN.{length}
+use Rattle.table.specs.laws.Lists.{body-listed}
+use Rattle.table.specs.Program.{Code, end, new, lock, fork, choice, call, mirror, Program}
 use Rattle.table.specs.Program.{params, body}
 use Rattle.table.specs.WellFormed.{In}
 use Rattle.table.specs.Check.{in?}
 use Rattle.rules.specs.Label.{Label, own, forked, unknown, several, combine, cut, placed}
 use Rattle.rules.specs.Model.{Kept, renamed, Place, atHead, naming, underLock, underFork}
 use Rattle.rules.specs.Model.{Recorded, Model, follows, Row}
-use Rattle.rules.specs.laws.Satisfies.{Pairs, RecordedFrom, RowOf, Satisfies}
+use Rattle.rules.specs.Derived.{Pairs, RecordedFrom, RowOf}
+use Rattle.rules.specs.laws.Satisfies.{Satisfies}
 use Rattle.rules.specs.laws.Least.{recorded-mono, row-mono, recorded-of-rows, model-satisfies}
 use Rattle.rules.specs.laws.Least.{recorded-least, model-least}
 use Rattle.rules.specs.laws.Nest.{is-in}
@@ -271,8 +273,8 @@ module _ (P : Program) (es : List Entry) where
                 (pair a b l, is-recorded P es (body P r) atHead a b l .entry w, (k, refl)),
               ))
           go (no ge) =
-              absurd (subst (λ (q : Routine). RecordedFrom (RowOf P (Listed es)) (q .code) atHead a b l)
-              (List·getD-eq-default P empty {n = r} (omega arith)) w)
+              absurd (let lt = body-listed P r (λ c. RecordedFrom (RowOf P (Listed es)) c atHead a b l) (λ z. z) w in
+              omega arith)
 
       follow :
           (r a b c : ℕ) (l m : Label)

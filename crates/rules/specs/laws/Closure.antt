@@ -1,16 +1,9 @@
--- The pairs worked out in one body: what the body records, closed under combining.
-use mathlib.Core.Path.{_≡_}
+-- The model of a routine is what its body records, closed under combining; the closure is the least.
 use Prim.Native.Nat.{ℕ}
 use Rattle.table.specs.Program.{Program, body}
 use Rattle.rules.specs.Label.{Label, combine}
 use Rattle.rules.specs.Model.{Kept, atHead, Recorded, Model}
-
--- the pairs G, and each kept pair that follows from two
-pub data Closed (G : ℕ → ℕ → Label → Type 0) : ℕ → ℕ → Label → Type 0 where
-  given : {a b : ℕ} {l : Label} → G a b l → Closed G a b l
-  follows : {a b c : ℕ} {l m n : Label}
-      → Closed G a b l → Closed G b c m → n ≡ combine l m → Kept a c n
-      → Closed G a c n
+use Rattle.rules.specs.Derived.{Closed, given, follows}
 
 -- the kept pairs that the body of routine r records
 abbrev pub KeptBy : Program → ℕ → ℕ → ℕ → Label → Type 0

@@ -28,7 +28,8 @@ use Rattle.rules.specs.Model.{
   records,
   follows,
 }
-use Rattle.rules.specs.laws.Satisfies.{Pairs, RecordedFrom, RowOf, Satisfies}
+use Rattle.rules.specs.Derived.{Pairs, RecordedFrom, RowOf}
+use Rattle.rules.specs.laws.Satisfies.{Satisfies}
 
 -- what is recorded from some rows is recorded from larger ones
 pub recorded-mono :

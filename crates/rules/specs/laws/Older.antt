@@ -11,17 +11,18 @@ use Prim.Native.Nat.{ℕ, zero, suc, _<_}
 use native.Mathlib.Omega.{arith}
 use native.Mathlib.Decide.{ℕ-discrete, decLt}
 use lib.Dec.{T}
-use lib.ListN.{length, getElem?, List·getD-eq-default}
-use Rattle.table.specs.Program.{Code, end, new, lock, fork, choice, call, mirror, Routine, Program, empty}
+use lib.ListN.{length, getElem?}
+use Rattle.table.specs.Program.{Code, end, new, lock, fork, choice, call, mirror, Program}
 use Rattle.table.specs.Program.{params, body, names}
 use Rattle.table.specs.WellFormed.{In, Scoped, Fresh, WellFormed}
-use Rattle.table.specs.laws.Lists.{names-in, In-map}
+use Rattle.table.specs.laws.Lists.{names-in, In-map, body-listed}
 use Rattle.rules.specs.Label.{Label, own, forked, unknown, several, combine, cut, placed}
 use Rattle.rules.specs.Model.{Kept, renamed, Place, atHead, naming, nested, underLock, underFork, Model}
 use Rattle.rules.specs.Verdict.{Clear}
 use Rattle.rules.specs.laws.Combine.{with-several, same-fork}
 use Rattle.rules.specs.laws.Nest.{by-nest, by-bind}
-use Rattle.rules.specs.laws.Satisfies.{Pairs, RecordedFrom, RowOf, Recording, SatisfiesOf, Satisfies}
+use Rattle.rules.specs.Derived.{Pairs, RecordedFrom, RowOf}
+use Rattle.rules.specs.laws.Satisfies.{Recording, SatisfiesOf, Satisfies}
 use Rattle.rules.specs.laws.Satisfies.{ModelOf, ClearOf}
 use Rattle.rules.specs.laws.Least.{model-least}
 
@@ -363,8 +364,8 @@ module _ (κ : Test) (careful : Careful κ) (P : Program) (M : Pairs) (ok : Sati
         leads = inl refl;
         inside = ok .records r;
       }) a b l q k
-      | no ge ↦ absurd (subst (λ (q : Routine). RecordedFrom (RowOf P InOlder) (q .code) atHead a b l)
-          (List·getD-eq-default P empty {n = r} (omega arith)) q)
+      | no ge ↦ absurd (let lt = body-listed P r (λ c. RecordedFrom (RowOf P InOlder) c atHead a b l) (λ z. z) q in
+          omega arith)
     ];
     follows = λ r a b c l m p q k. (
       ok .follows r a b c l m (p .0) (q .0) k,

@@ -1,39 +1,10 @@
--- What it is for a family of pairs to satisfy the rules (docs/FORMAT.md); recording is a function of the rows called.
-use mathlib.Core.Path.{_≡_}
-use mathlib.Core.Logic.{_≢_, _⊎_}
-use mathlib.Core.List.{map}
-use mathlib.Core.Option.{some}
-use Prim.Native.Nat.{ℕ, _≤_}
-use Rattle.table.specs.Program.{Code, end, new, lock, fork, choice, call, mirror, Program, params, body}
-use Rattle.table.specs.WellFormed.{In}
-use Rattle.rules.specs.Label.{Label, several, combine, cut, placed}
-use Rattle.rules.specs.Model.{Kept, renamed, Place, atHead, naming, underLock, underFork}
+-- What it is for a family of pairs to satisfy the rules (docs/FORMAT.md).
+use Prim.Native.Nat.{ℕ}
+use Rattle.table.specs.Program.{Program, body}
+use Rattle.rules.specs.Label.{Label, several, combine}
+use Rattle.rules.specs.Model.{Kept, atHead}
+use Rattle.rules.specs.Derived.{Pairs, RecordedFrom, RowOf}
 use Rattle.rules.specs.Verdict.{Reached}
-
--- a family of labelled pairs for each routine
-abbrev pub Pairs : Type 1
-Pairs = ℕ → ℕ → ℕ → Label → Type 0
-
--- the code c, at the place w, records the pair (a, b) labelled l, where R has the rows of the routines called
-abbrev pub RecordedFrom : Pairs → Code → Place → ℕ → ℕ → Label → Type 0
-RecordedFrom R end w a b l = ⊥
-RecordedFrom R (new x c) w a b l = RecordedFrom R c (naming x x w) a b l
-RecordedFrom R (lock x c d) w a b l =
-    ((¬ In (w .roots x) (w .nest)) × (w .holder ≡ some a) × (b ≡ w .roots x) × (l ≡ w .thread))
-    ⊎ (RecordedFrom R c (underLock (w .roots x) w) a b l ⊎ RecordedFrom R d w a b l)
-RecordedFrom R (fork i c d) w a b l = RecordedFrom R c (underFork i w) a b l ⊎ RecordedFrom R d w a b l
-RecordedFrom R (choice u v c) w a b l =
-    RecordedFrom R u w a b l ⊎ (RecordedFrom R v w a b l ⊎ RecordedFrom R c w a b l)
-RecordedFrom R (call r xs c) w a b l =
-    ((a₀ : ℕ) × (b₀ : ℕ) × (m : Label) × R r a₀ b₀ m
-    × (renamed (w .holder) (map (w .roots) xs) a₀ ≡ some a) × (renamed (w .holder) (map (w .roots) xs) b₀ ≡ some b)
-    × (l ≡ placed (w .thread) m))
-    ⊎ RecordedFrom R c w a b l
-RecordedFrom R (mirror x y c) w a b l = RecordedFrom R c (naming x (w .roots y) w) a b l
-
--- the row that the pairs M give routine r
-abbrev pub RowOf : Program → Pairs → Pairs
-RowOf P M r a b l = (m : Label) × M r a b m × (a ≤ params P r) × (b ≤ params P r) × (a ≢ b) × (l ≡ cut m)
 
 -- what some rules record in the body of each routine, by the rows of the routines called
 abbrev pub Recording : Type 1

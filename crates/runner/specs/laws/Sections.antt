@@ -13,8 +13,7 @@ use Rattle.table.specs.Program.{Program, body}
 use Rattle.table.specs.Check.{Outcome, refused, accepted, checkTable}
 use Rattle.table.specs.laws.Formed.{well-formed}
 use Rattle.table.specs.laws.Refusals.{refusals}
-use Rattle.table.specs.laws.Sections.{Holds}
-use Rattle.table.specs.laws.Sound.{counts-length}
+use Rattle.table.specs.laws.Sections.{Holds, routines}
 use Rattle.run.specs.Run.{ended, thread, start}
 use Rattle.schedule.specs.Limits.{most-locks}
 use Rattle.schedule.specs.Schedule.{End, all-ended, stuck, at-end, unstarted, beyond, Result, stop, runs}
@@ -74,15 +73,12 @@ module _ (ks s heads links bs : List ℕ) (linked : Links ks s heads links) (P :
   bodies : Bodies P (section ks s heads links bs)
   bodies = linked P h .0 bs
 
-  routines : length ks ≡ length P
-  routines = ap length (h .params-are) ∙ counts-length P
-
   -- the body of routine 0 is the first
   first : (to : ℕ) × Lies (section ks s heads links bs) false 0 (body P 0) to
   first =
       let e = linked P h .1 in
       let l = h .limits .some-routine in
-      let d = routines in
+      let d = routines P ks s h in
       let b = bodies 0 (omega (arith, l, d)) in
       (b .0, subst (λ (v : ℕ). Lies (section ks s heads links bs) false v (body P 0) (b .0)) e (b .1))
 
@@ -91,7 +87,7 @@ module _ (ks s heads links bs : List ℕ) (linked : Links ks s heads links) (P :
       let a = h .limits .few-bytes in
       let b = ap length (h .bytes-are) in
       let c = h .limits .few-routines in
-      let d = routines in
+      let d = routines P ks s h in
       record {
         some = item-here (section ks s heads links bs) false 0 (body P 0) (first .0) (first .1) .inside;
         bytes = omega (arith, a, b);

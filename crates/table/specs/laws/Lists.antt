@@ -1,12 +1,13 @@
--- Lists: membership, lists without repetition, and a list less one entry.
+-- Lists: membership, lists without repetition, and a list less one entry; the routines that a program has.
 use mathlib.Core.Path.{_≡_, refl, sym, ap, _∙_, subst}
 use mathlib.Core.Logic.{_≢_, _⊎_, inl, inr}
 use mathlib.Core.List.{List, [], _∷_, _++_, map}
 use mathlib.Core.Option.{some}
 use Prim.Native.Nat.{ℕ, zero, suc, _≤_, _<_}
+use native.Mathlib.Decide.{decLt}
 use native.Mathlib.Omega.{arith}
-use lib.ListN.{length, getD, getElem?}
-use Rattle.table.specs.Program.{names}
+use lib.ListN.{length, getD, getElem?, List·getD-eq-default}
+use Rattle.table.specs.Program.{Code, end, Routine, Program, empty, body, names}
 use Rattle.table.specs.WellFormed.{In, NoDup}
 
 module _ {A : Type 0} where
@@ -102,3 +103,12 @@ pub getD-in :
 getD-in [] i lt = absurd (omega arith)
 getD-in (x ∷ xs) zero lt = (inl refl, refl)
 getD-in (x ∷ xs) (suc i) lt = let r = getD-in xs i (omega arith) in (inr (r .0), r .1)
+
+-- a routine of whose body something holds that does not hold of the empty one is one of the program
+pub body-listed : (P : Program) (r : ℕ) (F : Code → Type 0) → ¬ F end → F (body P r) → r < length P
+body-listed P r F n w = go (decLt r (length P))
+  where
+    go : Dec (r < length P) → r < length P
+    go (yes l) = l
+    go (no m) =
+        absurd (n (subst (λ (q : Routine). F (q .code)) (List·getD-eq-default P empty {n = r} (omega arith)) w))

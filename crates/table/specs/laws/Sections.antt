@@ -1,14 +1,16 @@
 -- The sections of a table that hold a program; those of an accepted table do, as code takes them.
 use mathlib.Core.Path.{_≡_, sym, ap, _∙_}
 use mathlib.Core.List.{List, _++_}
-use Prim.Native.Nat.{ℕ, suc, _+_, _-_, _≤_}
+use Prim.Native.Nat.{ℕ, suc, _+_, _-_, _≤_, _<_}
+use native.Mathlib.Decide.{decLt}
 use native.Mathlib.Omega.{arith}
-use lib.ListN.{length, getD, take, drop, length-append}
+use lib.ListN.{length, getD, take, drop, length-append, List·getD-eq-default}
 use lib.Seq.{take-at, take-all, drop-append-add}
-use Rattle.table.specs.Program.{Program}
+use Rattle.table.specs.Constants.{most-routines, most-params}
+use Rattle.table.specs.Program.{Program, params}
 use Rattle.table.specs.Encoding.{encodeTable, encodeBodies, counts, twoBytes, WithinLimits}
 use Rattle.table.specs.Check.{accepted, checkTable}
-use Rattle.table.specs.laws.Sound.{sound, counts-length}
+use Rattle.table.specs.laws.Sound.{sound, counts-length, counts-params}
 use Rattle.table.specs.Answer.{checkedOf}
 use Rattle.table.specs.declared.Checked.the-variants.{Accepted}
 use Rattle.table.specs.laws.Accepts.{Bytes, accepted-few, accepted-of}
@@ -19,9 +21,30 @@ pub record Holds (P : Program) (ks s : List ℕ) : Type 0 where
   pub bytes-are : s ≡ encodeBodies P
   pub limits : WithinLimits P
 
+module _ (P : Program) (ks s : List ℕ) (h : Holds P ks s) where
+  pub routines : length ks ≡ length P
+  routines = ap length (h .params-are) ∙ counts-length P
+
+  pub params-at : (r : ℕ) → getD ks r 0 ≡ params P r
+  params-at r = ap (λ (v : List ℕ). getD v r 0) (h .params-are) ∙ counts-params P r
+
+  -- a parameter count is at most 7, and 0 beyond the last
+  pub few-params : (r : ℕ) → getD ks r 0 ≤ most-params
+  few-params r = go (decLt r (length P))
+    where
+      go : Dec (r < length P) → getD ks r 0 ≤ most-params
+      go (yes l) = rw (params-at r) (h .limits .fits r l .few-params)
+      go (no n) =
+          let e = routines in
+          let z : getD ks r 0 ≡ 0 = List·getD-eq-default ks 0 {n = r} (omega (arith, e, n)) in
+          omega (arith, z)
+
 -- some program is held
 abbrev pub Held : List ℕ → List ℕ → Type 0
 Held ks s = (P : Program) × Holds P ks s
+
+pub few : (ks s : List ℕ) → Held ks s → length ks ≤ most-routines
+few ks s p = let e = routines (p .0) ks s (p .1) in let l = p .1 .limits .few-routines in omega (arith, e, l)
 
 module _ (P : Program) where
   -- what follows the parameter counts

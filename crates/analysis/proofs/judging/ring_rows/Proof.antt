@@ -4,7 +4,7 @@ use mathlib.Core.Logic.{⊎-elim}
 use Prim.Native.Nat.{_-_, _≤_}
 use native.Mathlib.Omega.{arith}
 use Rattle.analysis.specs.laws.Judging.{RingRow}
-use Rattle.analysis.proofs.MaskLaws.{top-fits, Gathered, gathered-none, gathered-more, gathered-same}
+use Rattle.settle.specs.laws.Masks.{top-fits, Gathered, gathered-none, gathered-more, gathered-same}
 use borrow.Author.Needs.{needs}
 use Rattle.analysis.proofs.judging.ring_rows.Statement.{statement}
 use Rattle.analysis.proofs.judging.ring_rows.Tie as tie

@@ -1,0 +1,5 @@
+mod ReachLaws
+mod DueLaws
+mod SettleLaws
+mod LoopLaws
+mod WorkLaws

@@ -1,0 +1,7 @@
+-- What follows from the definitions, for the proofs to cite.
+pub mod Masks
+pub mod Off
+pub mod Cleared
+pub mod Starts
+pub mod Surveys
+pub mod Links

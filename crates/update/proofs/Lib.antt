@@ -1,0 +1,6 @@
+mod ZeroLaws
+mod FitLaws
+mod AnewLaws
+mod SameLaws
+mod ElsewhereLaws
+mod BringLaws
