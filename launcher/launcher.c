@@ -1,10 +1,12 @@
 /* launcher [--hex] [--model FILE] [--] TABLE: judges one handler table; launcher [--hex] --update [--] OLD NEW ROUTINE
- * MODEL: brings a model up to date where one routine is replaced; --help says it all. */
+ * MODEL: brings a model up to date where one routine is replaced; launcher [--hex] --canonical FILE [--] TABLE: writes
+ * a table in the one way; --help says it all. */
 #define _XOPEN_SOURCE 700 /* for a file that is put in the place of another */
 
 #include "refusals.h"
 #include "update.h"
 #include "vangpear.h"
+#include "writer.h"
 
 #include <ctype.h>
 #include <errno.h>
@@ -17,7 +19,10 @@
 #include <unistd.h>
 
 /* One byte more than the largest table: a longer file is refused, whatever comes after. */
-#define TABLE_LIMIT 4164u
+#define TABLE_LIMIT (VANGPEAR_LONGEST + 1)
+
+/* How many bytes stand in a line of hexadecimal text that is written. */
+#define LINE 16u
 
 /* Hexadecimal text may have spaces and comments: this many characters are plenty for a table. */
 #define TEXT_LIMIT (1u << 20)
@@ -33,28 +38,34 @@ enum { CLEAR = 0, DONE = 0, RING = 1, REFUSED = 2, TROUBLE = 3 };
 static const char help[] =
     "usage: launcher [--hex] [--model FILE] [--] TABLE\n"
     "       launcher [--hex] --update [--] OLD NEW ROUTINE MODEL\n"
+    "       launcher [--hex] --canonical FILE [--] TABLE\n"
     "\n"
     "Judges a handler table, whose format is in docs/FORMAT.md, and prints one line: `clear`, `ring` with a routine\n"
     "and a name, or `refused` with a number. What a ring or a refusal means is said in words on standard error.\n"
     "With --update it brings the model of a table up to date where one of its routines is replaced, and prints\n"
     "`done`, or `refused` with a number. That is no verdict: the new table is judged by itself.\n"
+    "With --canonical it writes the canonical table of a table, the one way to write it, and prints `canonical` with\n"
+    "its length in bytes, or `refused` with a number.\n"
     "\n"
-    "  TABLE         a table's bytes; - for standard input\n"
-    "  --model FILE  writes the model of TABLE to FILE, 65 bytes for each routine; nothing where TABLE is refused\n"
-    "  --update      brings MODEL up to date: the body of ROUTINE is replaced, which makes OLD into NEW\n"
-    "  OLD, NEW      the table before and the table after, like TABLE; only one of them can be -\n"
-    "  ROUTINE       the number of the routine, in decimal digits\n"
-    "  MODEL         a file that has the model of OLD, as --model writes it, and gets that of NEW. Bytes behind the\n"
-    "                rows are kept; it has 1 MiB at most. A refusal leaves it as it is\n"
-    "  --hex         tables are hexadecimal text, as in examples/: two digits to a byte, with or without 0x before a\n"
-    "                byte; spaces, commas and line ends stand between bytes; #, ; or // starts a comment\n"
-    "  --            ends the options: what comes after it may begin with -\n"
-    "  --help, -h    this text\n"
+    "  TABLE             a table's bytes; - for standard input\n"
+    "  --model FILE      writes the model of TABLE to FILE, 65 bytes for each routine\n"
+    "  --canonical FILE  writes the canonical table of TABLE to FILE, which can be TABLE\n"
+    "  --update          brings MODEL up to date: the body of ROUTINE is replaced, which makes OLD into NEW\n"
+    "  OLD, NEW          the table before and the table after, like TABLE; only one of them can be -\n"
+    "  ROUTINE           the number of the routine, in decimal digits\n"
+    "  MODEL             a file that has the model of OLD, as --model writes it, and gets that of NEW. Bytes behind\n"
+    "                    the rows are kept; it has 1 MiB at most\n"
+    "  --hex             tables are hexadecimal text, as in examples/, the canonical one too: two digits to a byte,\n"
+    "                    with or without 0x before a byte; spaces, commas and line ends stand between bytes; #, ; or\n"
+    "                    // starts a comment\n"
+    "  --                ends the options: what comes after it may begin with -\n"
+    "  --help, -h        this text\n"
     "\n"
-    "No more of a table is read than the largest table needs. A model is written before anything is printed, to a new\n"
-    "file in the folder of FILE or MODEL, which is then put in its place: if that fails, the old one is still there.\n"
-    "Exit status: 0 clear or done, 1 ring, 2 refused, 3 trouble (no such file, no hexadecimal text, output that\n"
-    "cannot be written and the like).\n";
+    "No more of a table is read than the largest table needs. FILE and MODEL are written before anything is printed:\n"
+    "a new file in the same folder is put in the place of the old one, which is still there if that fails. A refusal\n"
+    "leaves them as they are.\n"
+    "Exit status: 0 clear, done or canonical, 1 ring, 2 refused, 3 trouble (no such file, no hexadecimal text, output\n"
+    "that cannot be written and the like).\n";
 
 static void trouble(const char *name, const char *what)
 {
@@ -156,6 +167,18 @@ static long from_hex(uint8_t *bytes, size_t length, unsigned long *line)
     return count;
 }
 
+/* Turns bytes into hexadecimal text; gives its length, three characters to a byte. */
+static size_t to_hex(const uint8_t *bytes, size_t length, uint8_t *text)
+{
+    static const char digits[] = "0123456789ABCDEF";
+    for (size_t i = 0; i < length; i++) {
+        text[3 * i] = (uint8_t)digits[bytes[i] / 16];
+        text[3 * i + 1] = (uint8_t)digits[bytes[i] % 16];
+        text[3 * i + 2] = i % LINE == LINE - 1 || i == length - 1 ? '\n' : ' ';
+    }
+    return 3 * length;
+}
+
 /* Reads at most `limit` bytes of a file. Gives how many there were, or -1 with errno set. */
 static long read_file(const char *name, uint8_t *bytes, size_t limit)
 {
@@ -199,10 +222,10 @@ static void tell_ring(const uint8_t *table, unsigned routine, unsigned name)
             parameter ? "parameter" : "NEW or MIRROR", routine, name);
 }
 
-/* Says that the model is not written to a file, and by errno why. */
-static bool unwritten(const char *name)
+/* Says that what was to be written to a file is not, and why. */
+static bool unwritten(const char *name, const char *what, const char *why)
 {
-    fprintf(stderr, "launcher: %s: the model is not written: %s\n", name, strerror(errno));
+    fprintf(stderr, "launcher: %s: the %s is not written: %s\n", name, what, why);
     return false;
 }
 
@@ -262,22 +285,19 @@ static mode_t new_mode(void)
     return 0666 & ~mask;
 }
 
-/* Puts a file with the model's bytes in the place of the one with this name, or of the one that a symbolic link of this
- * name leads to, with the mode that it has. Gives whether that is done; if it is not, that is said. */
-static bool write_model(const char *name, const uint8_t *model, size_t length)
+/* Puts a file with these bytes, which words call `what`, in the place of the one with this name, or of the one that a
+ * symbolic link of this name leads to, with the mode that it has. Gives whether that is done; if not, that is said. */
+static bool write_file(const char *name, const char *what, const uint8_t *bytes, size_t length)
 {
     struct stat old;
     bool there = stat(name, &old) == 0;
-    if (!there && errno != ENOENT) return unwritten(name);
-    if (there && !S_ISREG(old.st_mode)) {
-        trouble(name, "the model is not written: this is no regular file");
-        return false;
-    }
-    if (there && access(name, W_OK) != 0) return unwritten(name);
+    if (!there && errno != ENOENT) return unwritten(name, what, strerror(errno));
+    if (there && !S_ISREG(old.st_mode)) return unwritten(name, what, "this is no regular file");
+    if (there && access(name, W_OK) != 0) return unwritten(name, what, strerror(errno));
     char *target = there ? realpath(name, NULL) : strdup(name);
     char *new_file = target == NULL ? NULL : beside(target);
-    bool good = new_file != NULL && put(target, new_file, there ? old.st_mode & 07777 : new_mode(), model, length);
-    if (!good) unwritten(name);
+    bool good = new_file != NULL && put(target, new_file, there ? old.st_mode & 07777 : new_mode(), bytes, length);
+    if (!good) unwritten(name, what, strerror(errno));
     free(new_file);
     free(target);
     return good;
@@ -299,7 +319,7 @@ static int judge(const uint8_t *table, size_t length, const char *file)
     uint8_t model[VANGPEAR_MODEL];
     uint32_t answer = vangpear_analyse(table, length, model, sizeof model);
     if (answer > 0 && answer < VANGPEAR_RING) return refuse(answer, "refused");
-    if (file != NULL && !write_model(file, model, VANGPEAR_ROW * table[0])) return TROUBLE;
+    if (file != NULL && !write_file(file, "model", model, VANGPEAR_ROW * table[0])) return TROUBLE;
     if (answer == 0) {
         puts("clear");
         return written() ? CLEAR : TROUBLE;
@@ -317,8 +337,9 @@ struct order {
     const char *words[UPDATE_WORDS];
     size_t count;
     uint64_t routine;
-    /* Where the model of a judged table is written; null for nowhere. */
+    /* Where the model of a judged table is written, and where the canonical table; null for nowhere. */
     const char *model;
+    const char *canonical;
     bool hex;
     bool update;
     bool help;
@@ -364,8 +385,24 @@ static int update_file(const struct order *order)
     uint32_t answer = vangpear_update(old_table, (size_t)old_length, new_table, (size_t)new_length, order->routine,
                                       model, (size_t)size);
     if (answer != VANGPEAR_DONE) return refuse(answer, refused_what(answer, old_table, (size_t)old_length));
-    if (!write_model(file, model, (size_t)size)) return TROUBLE;
+    if (!write_file(file, "model", model, (size_t)size)) return TROUBLE;
     puts("done");
+    return written() ? DONE : TROUBLE;
+}
+
+/* Reads the one table, writes its canonical table to a file, prints how long that is, and gives the exit status. */
+static int canonical_file(const struct order *order)
+{
+    static uint8_t table[TEXT_LIMIT + 1], canonical[VANGPEAR_LONGEST], text[3 * VANGPEAR_LONGEST];
+    long length = read_table(order->words[0], order->hex, table, sizeof table);
+    if (length < 0) return TROUBLE;
+    uint32_t answer = vangpear_canonical(table, (size_t)length, canonical, sizeof canonical);
+    if (answer < VANGPEAR_CANONICAL) return refuse(answer, "refused");
+    size_t count = VANGPEAR_CANONICAL_LENGTH(answer);
+    const uint8_t *bytes = order->hex ? text : canonical;
+    size_t size = order->hex ? to_hex(canonical, count, text) : count;
+    if (!write_file(order->canonical, "canonical table", bytes, size)) return TROUBLE;
+    printf("canonical %zu\n", count);
     return written() ? DONE : TROUBLE;
 }
 
@@ -376,12 +413,12 @@ static bool misused(const char *word, const char *what)
     return false;
 }
 
-/* Takes the file's name behind --model, which is null where there is none; gives whether it makes sense. */
-static bool take_model(const char *word, struct order *order)
+/* Takes the file's name behind an option, which is null where there is none; gives whether it makes sense. */
+static bool take_file(const char *option, const char *word, const char **file)
 {
-    if (word == NULL || word[0] == '-') return misused("", "--model needs a FILE, which does not begin with -");
-    if (order->model != NULL) return misused("", "--model is given twice");
-    order->model = word;
+    if (word == NULL || word[0] == '-') return misused(option, " needs a FILE, which does not begin with -");
+    if (*file != NULL) return misused(option, " is given twice");
+    *file = word;
     return true;
 }
 
@@ -417,7 +454,6 @@ static bool take_number(const char *word, uint64_t *number)
 /* Whether the words of --update make sense; takes the routine's number. */
 static bool take_update(struct order *order)
 {
-    if (order->model != NULL) return misused("", "--model does not go with --update");
     if (order->count != UPDATE_WORDS) return misused("", "--update takes four words, OLD NEW ROUTINE MODEL");
     if (strcmp(order->words[0], "-") == 0 && strcmp(order->words[1], "-") == 0)
         return misused("", "standard input is one table, and - is given twice");
@@ -432,10 +468,12 @@ static bool take_update(struct order *order)
 static bool take_words(struct order *order)
 {
     if (order->help) return true;
+    if ((order->model != NULL) + (order->canonical != NULL) + order->update > 1)
+        return misused("", "--model, --canonical and --update do not go together");
     if (order->update) return take_update(order);
     if (order->count == 0)
-        return misused("", "usage: launcher [--hex] [--model FILE] [--] TABLE, and - is standard input; or "
-                           "launcher [--hex] --update [--] OLD NEW ROUTINE MODEL");
+        return misused("", "usage: launcher [--hex] [--model FILE | --canonical FILE] [--] TABLE, and - is standard "
+                           "input; or launcher [--hex] --update [--] OLD NEW ROUTINE MODEL");
     return order->count == 1 || misused("", "one table at a time");
 }
 
@@ -450,8 +488,9 @@ static bool parse(int argc, char **argv, struct order *order)
             order->count++;
         } else if (strcmp(word, "--") == 0) {
             options = false;
-        } else if (strcmp(word, "--model") == 0) {
-            if (!take_model(i + 1 < argc ? argv[++i] : NULL, order)) return false;
+        } else if (strcmp(word, "--model") == 0 || strcmp(word, "--canonical") == 0) {
+            const char **file = strcmp(word, "--model") == 0 ? &order->model : &order->canonical;
+            if (!take_file(word, i + 1 < argc ? argv[++i] : NULL, file)) return false;
         } else if (!take_option(word, order)) {
             return false;
         }
@@ -473,5 +512,6 @@ int main(int argc, char **argv)
         fputs(help, stdout);
         return written() ? CLEAR : TROUBLE;
     }
-    return order.update ? update_file(&order) : judge_file(&order);
+    if (order.update) return update_file(&order);
+    return order.canonical != NULL ? canonical_file(&order) : judge_file(&order);
 }

@@ -1,6 +1,6 @@
 /* The ground of each refusal in a few words, by its number; docs/FORMAT.md has each in full. 16 and 17 are of running a
- * schedule alone, 18 and 19 of bringing a model up to date alone. ./vangpear reads these lines too. C11, usable from
- * C++. */
+ * schedule alone, 18 and 19 of bringing a model up to date alone, 20 of writing a canonical table alone. ./vangpear
+ * reads these lines too. C11, usable from C++. */
 #ifndef VANGPEAR_REFUSALS_H
 #define VANGPEAR_REFUSALS_H
 
@@ -25,6 +25,7 @@ static const char *const vangpear_refusals[] = {
     /* 17 */ "there is no record for a thread (at most 16), no room for a lock (64), or for an open block or call (64)",
     /* 18 */ "the tables differ in more than the body of that routine, or they have no such routine",
     /* 19 */ "the model is not well formed: a byte is too large, or a cell is not 0 where there can be no pair",
+    /* 20 */ "the output buffer is too short for the canonical table: as many bytes as the table has are enough",
 };
 
 #endif

@@ -1,5 +1,5 @@
 //! The functions of the archives that are under test. Nothing checks these
-//! declarations against their source: see launcher/vangpear.h and launcher/update.h.
+//! declarations against their source: see the headers in launcher/.
 //!
 //! A binary needs the archives of those functions alone that it calls: the linker drops the
 //! others.
@@ -21,6 +21,7 @@ extern "C" {
         model: *mut u8,
         model_len: usize,
     ) -> u32;
+    fn vangpear_canonical(table: *const u8, table_len: usize, out: *mut u8, out_len: usize) -> u32;
 }
 
 pub fn check(table: &[u8]) -> u32 {
@@ -48,4 +49,10 @@ pub fn update(old: &[u8], new: &[u8], routine: u64, model: &mut [u8]) -> u32 {
             model.len(),
         )
     }
+}
+
+pub fn canonical(table: &[u8], out: &mut [u8]) -> u32 {
+    // SAFETY: pointers and lengths are those of two slices that do not overlap,
+    // lent for the call.
+    unsafe { vangpear_canonical(table.as_ptr(), table.len(), out.as_mut_ptr(), out.len()) }
 }

@@ -2,19 +2,16 @@
 //! against; the naive analyser of `table` and `model` stays the reference, and `tests/fast.rs` holds
 //! this one against it.
 //!
-//! One pass over the bytes checks them, records the pair of each LOCK and lists each CALL, so that no
-//! byte is parsed a second time. Pairs are bit matrices, one a label. A routine is due while a row that
-//! it calls has changed; the routines due are the bits of one number. Nothing is taken from the heap.
+//! The pass over the bytes that checks them (`fast_read`) records the pair of each LOCK and lists each
+//! CALL, so that no byte is parsed a second time. Pairs are bit matrices, one a label. A routine is due
+//! while a row that it calls has changed; the routines due are the bits of one number. Nothing is taken
+//! from the heap.
 
-use std::mem::MaybeUninit;
-
-use crate::limits::{code, refusal, MAX_FORK, MAX_LOCALS, MAX_OPEN};
+use crate::fast_read::{self, head, read_body, Called, List, Listener, Renaming, NAMES};
+use crate::limits::{refusal, MAX_FORK, MAX_PARAMETERS, MAX_ROUTINES, MAX_SECTION};
 use crate::limits::{CELL_OWN, CELL_SEVERAL, CELL_UNKNOWN, RING_BYTE, ROW_BYTES, ROW_SIDE};
-use crate::limits::{MAX_PARAMETERS, MAX_ROUTINES, MAX_SECTION};
 use crate::limits::{RING_BASE, RING_NAME, RING_ROUTINE};
 
-/// Names of a routine: name 0, the parameters and the locals.
-const NAMES: usize = 16;
 /// Labels: own, the forks from 1 on, unknown, several; and how many there are.
 const OWN: usize = 0;
 const UNKNOWN: usize = MAX_FORK as usize + 1;
@@ -34,55 +31,8 @@ const WORDS: usize = NAMES / LANES;
 /// The lowest bit of each row of a word.
 const LOWEST: u64 = 0x0001_0001_0001_0001;
 
-/// For each name the one that its pairs are recorded under and that nests go by, four bits a name, the
-/// lowest for name 0.
-#[derive(Clone, Copy)]
-struct Roots(u64);
-
-impl Roots {
-    /// Each name for itself: so it is with parameters and NEW.
-    const NEW: Roots = Roots(0xFEDC_BA98_7654_3210);
-
-    #[inline(always)]
-    fn of(self, name: u8) -> u8 {
-        (self.0 >> (4 * name) & 0xF) as u8
-    }
-
-    /// Makes a name, which is for itself, a mirror of another one.
-    fn mirror(&mut self, name: u8, of: u8) {
-        self.0 ^= u64::from(name ^ self.of(of)) << (4 * name);
-    }
-}
-
 /// The first 4 × W rows of a matrix. A routine with few names has but few words.
 type Matrix<const W: usize> = [u64; W];
-
-/// A list of at most N things that lives on the stack and is not cleared before use.
-struct List<T: Copy, const N: usize> {
-    items: [MaybeUninit<T>; N],
-    len: usize,
-}
-
-impl<T: Copy, const N: usize> List<T, N> {
-    fn new() -> Self {
-        List {
-            items: [const { MaybeUninit::uninit() }; N],
-            len: 0,
-        }
-    }
-
-    /// Adds one at the end and gives it back to be filled.
-    fn push(&mut self, item: T) -> &mut T {
-        let place = &mut self.items[self.len];
-        self.len += 1;
-        place.write(item)
-    }
-
-    fn all_mut(&mut self) -> &mut [T] {
-        // SAFETY: `push` has written the first `len` things.
-        unsafe { std::slice::from_raw_parts_mut(self.items.as_mut_ptr().cast(), self.len) }
-    }
-}
 
 /// What callers see of a routine: for each kind of label, bit 8 × a + b is the pair (a, b).
 #[derive(Clone, Copy, PartialEq, Eq, Default)]
@@ -131,7 +81,8 @@ struct Body {
     /// Its calls are these of the list of calls.
     first_call: u16,
     after_calls: u16,
-    roots: Roots,
+    /// For each name the one that its pairs are recorded under and that nests go by.
+    roots: Renaming,
     row: Row,
     /// Routines as bits: those it calls, those that call it, and those whose rows have changed since
     /// their pairs were taken.
@@ -152,7 +103,7 @@ impl Body {
             names: parameters + 1,
             first_call: first_call as u16,
             after_calls: first_call as u16,
-            roots: Roots::NEW,
+            roots: Renaming::NONE,
             row: Row::default(),
             callees: 0,
             callers: 0,
@@ -183,20 +134,6 @@ impl Body {
 struct Program<const R: usize, const C: usize> {
     bodies: List<Body, R>,
     calls: List<Call, C>,
-}
-
-/// What holds inside an open block.
-#[derive(Clone, Copy)]
-struct Place {
-    /// The names in scope, as bits.
-    scope: u16,
-    /// The roots of the names in the LOCK blocks of the thread around this place, as bits.
-    nest: u16,
-    /// The root of the name held.
-    holder: u8,
-    thread: u8,
-    /// Whether the block is a first alternative.
-    first: bool,
 }
 
 /// Writes the model into the head of `buffer` and gives the verdict, as the archive's analysis does.
@@ -238,46 +175,27 @@ fn analyse<const R: usize, const C: usize>(
     verdict(bodies)
 }
 
-/// Refusals 1 to 6; the parameter counts and the body section.
-fn head(table: &[u8]) -> Result<(&[u8], &[u8]), u32> {
-    let Some((&n, rest)) = table.split_first() else {
-        return Err(refusal::EMPTY);
-    };
-    let n = n as usize;
-    if n == 0 || n > MAX_ROUTINES {
-        return Err(refusal::ROUTINE_COUNT);
-    }
-    if rest.len() < n + 2 {
-        return Err(refusal::HEADER_CUT);
-    }
-    let (counts, rest) = rest.split_at(n);
-    if counts[0] != 0 || counts.iter().any(|&k| k > MAX_PARAMETERS) {
-        return Err(refusal::PARAMETER_COUNT);
-    }
-    let said = u16::from_le_bytes([rest[0], rest[1]]) as usize;
-    let section = &rest[2..];
-    if said > MAX_SECTION {
-        return Err(refusal::SECTION_COUNT);
-    }
-    if said != section.len() {
-        return Err(refusal::SECTION_LENGTH);
-    }
-    Ok((counts, section))
-}
-
 /// Refusals 7 to 14; reads all bodies.
 fn read<const R: usize, const C: usize>(
     counts: &[u8],
     section: &[u8],
     program: &mut Program<R, C>,
 ) -> Result<(), u32> {
-    let mut at = 0;
-    for &parameters in counts {
-        at = read_body(counts, section, at, parameters, program)?;
-    }
-    if at < section.len() {
-        return Err(refusal::BYTES_LEFT);
-    }
+    let Program { bodies, calls } = program;
+    fast_read::bodies(counts, section, |parameters, at| {
+        let first_call = calls.len();
+        let mut recorder = Recorder {
+            body: bodies.push(Body::new(parameters, first_call)),
+            calls,
+            roots: Renaming::NONE,
+        };
+        let (after, locals) = read_body(counts, section, at, parameters, &mut recorder)?;
+        let Recorder { body, calls, roots } = recorder;
+        body.names += locals;
+        body.roots = roots;
+        body.after_calls = calls.len() as u16;
+        Ok(after)
+    })?;
     link(program.bodies.all_mut());
     Ok(())
 }
@@ -303,173 +221,71 @@ fn ones(mut bits: u64) -> impl Iterator<Item = usize> {
     })
 }
 
-/// Reads the body at an offset, up to and with the END that closes it; the offset after it.
-fn read_body<const R: usize, const C: usize>(
-    counts: &[u8],
-    section: &[u8],
-    at: usize,
-    parameters: u8,
-    program: &mut Program<R, C>,
-) -> Result<usize, u32> {
-    let calls = &mut program.calls;
-    let body = program.bodies.push(Body::new(parameters, calls.len));
-    let mut outside: Outside = [const { MaybeUninit::uninit() }; MAX_OPEN];
-    let mut reader = Reader {
-        at,
-        depth: 0,
-        here: Place {
-            scope: (2 << parameters) - 2,
-            nest: 0,
-            holder: 0,
-            thread: OWN as u8,
-            first: false,
-        },
+/// Records the pairs of one body, and its calls.
+struct Recorder<'a, const C: usize> {
+    body: &'a mut Body,
+    calls: &'a mut List<Call, C>,
+    roots: Renaming,
+}
+
+/// What the analysis knows of a place.
+#[derive(Clone, Copy)]
+struct Known {
+    /// The roots of the names in the LOCK blocks of the thread around this place, as bits.
+    nest: u16,
+    /// The root of the name held.
+    holder: u8,
+    thread: u8,
+}
+
+impl<const C: usize> Listener for Recorder<'_, C> {
+    type Place = Known;
+    const START: Known = Known {
+        nest: 0,
+        holder: 0,
+        thread: OWN as u8,
     };
-    let (mut locals, mut forks) = (0, 0);
-    let mut roots = Roots::NEW;
-    loop {
-        match reader.byte(section, refusal::NO_CODE)? {
-            code::END => {
-                if reader.here.first {
-                    return Err(refusal::MISPLACED);
-                }
-                if reader.depth == 0 {
-                    break;
-                }
-                reader.close(&outside);
-            }
-            code::NEW => {
-                if locals == MAX_LOCALS {
-                    return Err(refusal::TOO_MANY);
-                }
-                locals += 1;
-                reader.here.scope |= 1 << (parameters + locals);
-            }
-            code::LOCK => {
-                let (held, thread) = (reader.here.holder, reader.here.thread);
-                reader.open(&mut outside)?;
-                let root = roots.of(reader.name(section)?);
-                // A lock in the nest is passed over: inside the block all is as outside it.
-                if reader.here.nest >> root & 1 == 0 {
-                    if held != NOTHING {
-                        body.record(thread as usize, held as usize, 1 << root);
-                    }
-                    reader.here.nest |= 1 << root;
-                    reader.here.holder = root;
-                }
-            }
-            code::FORK => {
-                reader.open(&mut outside)?;
-                if forks == MAX_FORK {
-                    return Err(refusal::TOO_MANY);
-                }
-                forks += 1;
-                reader.here.nest = 0;
-                reader.here.holder = NOTHING;
-                reader.here.thread = forks;
-            }
-            code::CHOICE => {
-                reader.open(&mut outside)?;
-                reader.here.first = true;
-            }
-            code::OTHER => {
-                if !reader.here.first {
-                    return Err(refusal::MISPLACED);
-                }
-                // One block closes and one opens, without the locals of the first alternative.
-                reader.close(&outside);
-                reader.open(&mut outside)?;
-            }
-            code::CALL => {
-                let call = reader.call(counts, section)?;
-                body.callees |= 1 << call.routine;
-                if call.names as usize != reader.at {
-                    calls.push(call);
-                }
-            }
-            code::MIRROR => {
-                if locals == MAX_LOCALS {
-                    return Err(refusal::TOO_MANY);
-                }
-                let of = reader.name(section)?;
-                locals += 1;
-                reader.here.scope |= 1 << (parameters + locals);
-                roots.mirror(parameters + locals, of);
-            }
-            _ => return Err(refusal::BAD_CODE),
-        }
-    }
-    body.names += locals;
-    body.roots = roots;
-    body.after_calls = calls.len as u16;
-    Ok(reader.at)
-}
 
-/// What held outside each open block, the outermost first.
-type Outside = [MaybeUninit<Place>; MAX_OPEN];
-
-/// How far a body has been read, how many blocks are open, and what holds in the innermost. The bytes
-/// and the outer places are kept apart, so that this stays in registers.
-struct Reader {
-    at: usize,
-    depth: usize,
-    here: Place,
-}
-
-impl Reader {
-    /// The next byte, or the refusal that is due without it.
     #[inline(always)]
-    fn byte(&mut self, section: &[u8], number: u32) -> Result<u8, u32> {
-        let byte = *section.get(self.at).ok_or(number)?;
-        self.at += 1;
-        Ok(byte)
-    }
-
-    /// The next byte, which must be a name in scope.
-    #[inline(always)]
-    fn name(&mut self, section: &[u8]) -> Result<u8, u32> {
-        let name = self.byte(section, refusal::BAD_NAME)?;
-        if name < NAMES as u8 && self.here.scope >> name & 1 == 1 {
-            Ok(name)
-        } else {
-            Err(refusal::BAD_NAME)
+    fn lock(&mut self, here: &mut Known, name: u8) {
+        let root = self.roots.of(name);
+        // A lock in the nest is passed over: inside the block all is as outside it.
+        if here.nest >> root & 1 == 0 {
+            if here.holder != NOTHING {
+                let (label, held) = (here.thread as usize, here.holder as usize);
+                self.body.record(label, held, 1 << root);
+            }
+            here.nest |= 1 << root;
+            here.holder = root;
         }
     }
 
-    /// Opens a block, unless it would be a seventeenth.
     #[inline(always)]
-    fn open(&mut self, outside: &mut Outside) -> Result<(), u32> {
-        let place = outside.get_mut(self.depth).ok_or(refusal::TOO_DEEP)?;
-        place.write(self.here);
-        self.depth += 1;
-        self.here.first = false;
-        Ok(())
+    fn fork(&mut self, here: &mut Known, number: u8) {
+        *here = Known {
+            nest: 0,
+            holder: NOTHING,
+            thread: number,
+        };
     }
 
-    /// Closes the innermost open block, of which there is one.
     #[inline(always)]
-    fn close(&mut self, outside: &Outside) {
-        self.depth -= 1;
-        // SAFETY: `open` has written the places below the depth.
-        self.here = unsafe { outside[self.depth].assume_init() };
-    }
-
-    /// The rest of a CALL.
-    #[inline(always)]
-    fn call(&mut self, counts: &[u8], section: &[u8]) -> Result<Call, u32> {
-        let routine = self.byte(section, refusal::BAD_ROUTINE)?;
-        let count = counts.get(routine as usize).ok_or(refusal::BAD_ROUTINE)?;
-        let names = self.at as u16;
-        for _ in 0..*count {
-            self.name(section)?;
+    fn call(&mut self, here: Known, call: Called) {
+        self.body.callees |= 1 << call.routine;
+        if call.names != call.after_names {
+            self.calls.push(Call {
+                names: call.names as u16,
+                routine: call.routine,
+                holder: here.holder,
+                thread: here.thread,
+                taken: Row::default(),
+            });
         }
-        Ok(Call {
-            names,
-            routine,
-            holder: self.here.holder,
-            thread: self.here.thread,
-            taken: Row::default(),
-        })
+    }
+
+    #[inline(always)]
+    fn mirror(&mut self, name: u8, of: u8) {
+        self.roots.rename(name, self.roots.of(of));
     }
 }
 

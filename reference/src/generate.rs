@@ -527,8 +527,32 @@ pub fn valid_body(rng: &mut Rng, counts: &[u8], routine: usize, room: usize) -> 
     body(rng, &style, counts, routine, room)
 }
 
+/// The same with many NEW, MIRROR and CHOICE items.
+pub fn body_of_locals(rng: &mut Rng, counts: &[u8], routine: usize, room: usize) -> Vec<u8> {
+    let style = Style {
+        new: rng.between(3, 8),
+        lock: rng.between(4, 8),
+        fork: rng.between(0, 3),
+        choice: rng.between(2, 6),
+        call: rng.between(1, 6),
+        stop: rng.between(10, 40),
+        fill: true,
+        head: rng.between(0, 2),
+        max_locals: MAX_LOCALS,
+        max_fork: MAX_FORK,
+        max_open: rng.between(2, MAX_OPEN),
+        nests: Nests::Any,
+        mirrors: Mirrors {
+            weight: rng.between(2, 10),
+            head: 0,
+            stray: 0,
+        },
+    };
+    body(rng, &style, counts, routine, room)
+}
+
 /// Parameter counts for `routines` routines, none for routine 0.
-fn counts(rng: &mut Rng, routines: usize, most: usize) -> Vec<u8> {
+pub(crate) fn counts(rng: &mut Rng, routines: usize, most: usize) -> Vec<u8> {
     let mut counts = vec![0];
     for _ in 1..routines {
         let least = if rng.chance(85) { most.min(1) } else { 0 };
@@ -745,7 +769,7 @@ fn mixed(rng: &mut Rng, locals: Locals) -> Vec<u8> {
 
 /// Which routines each routine calls, so that calls reach some from routine 0 and others
 /// not.
-fn callees(rng: &mut Rng, routines: usize) -> Vec<Vec<usize>> {
+pub(crate) fn callees(rng: &mut Rng, routines: usize) -> Vec<Vec<usize>> {
     let mut callees = vec![vec![]; routines];
     let mut others: Vec<usize> = (1..routines).collect();
     let to_reach = if rng.chance(30) {

@@ -4,7 +4,7 @@ use crate::cases::worked;
 use crate::generate::{assemble, of_kind, valid_body, Kind, Rng};
 use crate::hex;
 use crate::limits::code::*;
-use crate::limits::{MAX_PARAMETERS, MAX_ROUTINES, MAX_SECTION};
+use crate::limits::{MAX_LOCALS, MAX_PARAMETERS, MAX_ROUTINES, MAX_SECTION};
 use crate::table::read;
 use crate::update::reaching;
 use crate::updates::Draft;
@@ -186,6 +186,57 @@ pub fn update_groups() -> Vec<UpdateGroup> {
     groups
 }
 
+/// Those of the groups above that are written anew too, and what is said of them there.
+const ALSO_WRITTEN: [(&str, &str); 7] = [
+    ("ordinary: small", AS_ABOVE),
+    ("ordinary: deep", AS_ABOVE),
+    ("ordinary: wide", AS_ABOVE),
+    ("ordinary: mirrors", AS_ABOVE),
+    ("full: calls", AS_ABOVE),
+    ("chain: falling", AS_ABOVE),
+    (
+        "full: LOCKs",
+        "the table of that group above; nobody calls a routine, so that only routine 0 is kept",
+    ),
+];
+const AS_ABOVE: &str = "the tables of that group above";
+
+/// All groups of tables to be written anew; all are accepted.
+pub fn writing_groups() -> Vec<Group> {
+    let group = |name, what, table| Group {
+        name,
+        what,
+        tables: vec![table],
+    };
+    let mut all = groups();
+    let mut groups: Vec<Group> = ALSO_WRITTEN
+        .into_iter()
+        .map(|(name, what)| {
+            let at = all.iter().position(|group| group.name == name);
+            let group = all.swap_remove(at.expect("a group of that name"));
+            Group { what, ..group }
+        })
+        .collect();
+    groups.extend([
+        group(
+            "falling: LOCKs",
+            "as full: LOCKs, but each routine calls the next lower one, and 0 the highest",
+            full_and_falling(|rng, _, room| locks(rng, room)),
+        ),
+        group(
+            "falling: choices",
+            "the same with choices in place of the LOCKs",
+            full_and_falling(|rng, _, room| choices(rng, room)),
+        ),
+        group(
+            "falling: mirrors",
+            "the same with MIRRORs, as many as there may be, and LOCKs on names of all sorts",
+            full_and_falling(mirrors_and_locks),
+        ),
+    ]);
+    groups
+}
+
 /// A table and the same with this body for one routine.
 fn replaced(old: Vec<u8>, routine: usize, body: Vec<u8>) -> Replaced {
     let new = Draft::of(&old).with(routine, body).table();
@@ -256,48 +307,106 @@ fn refused(kind: Kind, count: usize) -> Vec<Vec<u8>> {
 }
 
 /// A table of 64 routines with seven names each: parameters, but locals in routine 0. `body` writes
-/// items of a routine that take at most the number of bytes given.
-fn full(mut body: impl FnMut(usize) -> Vec<u8>) -> Vec<u8> {
+/// items of the routine given that take at most the number of bytes given.
+fn full(mut body: impl FnMut(usize, usize) -> Vec<u8>) -> Vec<u8> {
     let mut counts = [MAX_PARAMETERS; MAX_ROUTINES];
     counts[0] = 0;
     let mut section = vec![NEW; MAX_PARAMETERS as usize];
     for routine in 0..MAX_ROUTINES {
         let to_come = MAX_ROUTINES - routine;
         let room = (MAX_SECTION - section.len()) / to_come - 1;
-        section.extend(body(room));
+        section.extend(body(routine, room));
         section.push(END);
     }
     assemble(&counts, &section)
 }
 
-/// One of the seven names.
-fn name(rng: &mut Rng) -> u8 {
-    rng.between(1, MAX_PARAMETERS as usize) as u8
+/// Any name up to the last one.
+fn name_up_to(rng: &mut Rng, last: u8) -> u8 {
+    rng.between(1, last as usize) as u8
 }
 
-/// Two to five LOCK items, one inside the other.
-fn nest(rng: &mut Rng) -> Vec<u8> {
+/// One of the seven names.
+fn name(rng: &mut Rng) -> u8 {
+    name_up_to(rng, MAX_PARAMETERS)
+}
+
+/// Two to five LOCK items on names up to the last one, one inside the other.
+fn nest(rng: &mut Rng, last: u8) -> Vec<u8> {
     let depth = rng.between(2, 5);
-    let mut items: Vec<u8> = (0..depth).flat_map(|_| [LOCK, name(rng)]).collect();
+    let mut items: Vec<u8> = (0..depth)
+        .flat_map(|_| [LOCK, name_up_to(rng, last)])
+        .collect();
     items.extend(vec![END; depth]);
     items
 }
 
-/// Nests of LOCK items while there is room.
-fn locks(rng: &mut Rng, room: usize) -> Vec<u8> {
+/// One choice in another, each in any alternative, two to five deep.
+fn nested_choices(rng: &mut Rng) -> Vec<u8> {
+    let mut items = Vec::new();
+    for _ in 0..rng.between(2, 5) {
+        items = if rng.chance(50) {
+            [&[CHOICE], &items[..], &[OTHER, END]].concat()
+        } else {
+            [&[CHOICE, OTHER], &items[..], &[END]].concat()
+        };
+    }
+    items
+}
+
+/// One after the other while there is room.
+fn while_there_is_room(room: usize, mut one: impl FnMut() -> Vec<u8>) -> Vec<u8> {
     let mut items = Vec::new();
     loop {
-        let nest = nest(rng);
-        if items.len() + nest.len() > room {
+        let more = one();
+        if items.len() + more.len() > room {
             return items;
         }
-        items.extend(nest);
+        items.extend(more);
     }
+}
+
+/// Nests of LOCK items while there is room.
+fn locks(rng: &mut Rng, room: usize) -> Vec<u8> {
+    while_there_is_room(room, || nest(rng, MAX_PARAMETERS))
+}
+
+fn choices(rng: &mut Rng, room: usize) -> Vec<u8> {
+    while_there_is_room(room, || nested_choices(rng))
+}
+
+/// As many MIRROR items as there may be, of any names before them, and nests of LOCK items on names
+/// of all sorts.
+fn mirrors_and_locks(rng: &mut Rng, routine: usize, room: usize) -> Vec<u8> {
+    // The seven names of routine 0 are locals.
+    let locals = if routine == 0 { MAX_PARAMETERS } else { 0 };
+    let last = MAX_PARAMETERS + MAX_LOCALS - locals;
+    let mut items: Vec<u8> = (MAX_PARAMETERS..last)
+        .flat_map(|before| [MIRROR, name_up_to(rng, before)])
+        .collect();
+    let left = room - items.len();
+    items.extend(while_there_is_room(left, || nest(rng, last)));
+    items
+}
+
+/// The table of `full` in which each routine calls another one first, as in `chain_falling`, and
+/// `items` writes the others.
+fn full_and_falling(items: impl Fn(&mut Rng, usize, usize) -> Vec<u8>) -> Vec<u8> {
+    let mut rng = Rng::new(SEED);
+    full(|routine, room| {
+        let mut body = match falling(routine) {
+            Some(callee) => call_of(&mut rng, callee),
+            None => Vec::new(),
+        };
+        let left = room - body.len();
+        body.extend(items(&mut rng, routine, left));
+        body
+    })
 }
 
 fn full_of_locks() -> Vec<u8> {
     let mut rng = Rng::new(SEED);
-    full(|room| locks(&mut rng, room))
+    full(|_, room| locks(&mut rng, room))
 }
 
 /// One LOCK inside another, and calls of routines up to `most` with seven names while there is room,
@@ -307,13 +416,9 @@ fn calls(rng: &mut Rng, most: usize, room: usize) -> Vec<u8> {
     items.extend([FORK, LOCK, name(rng)]);
     items.extend(call(rng, most));
     items.extend([END, END]);
-    loop {
-        let call = call(rng, most);
-        if items.len() + call.len() > room {
-            return items;
-        }
-        items.extend(call);
-    }
+    let left = room - items.len();
+    items.extend(while_there_is_room(left, || call(rng, most)));
+    items
 }
 
 fn full_of_calls() -> Vec<u8> {
@@ -323,12 +428,18 @@ fn full_of_calls() -> Vec<u8> {
 /// Nobody calls a routine above `most`.
 fn full_of_calls_up_to(most: usize) -> Vec<u8> {
     let mut rng = Rng::new(SEED);
-    full(|room| calls(&mut rng, most, room))
+    full(|_, room| calls(&mut rng, most, room))
 }
 
 /// A CALL of any routine up to `most` but 0.
 fn call(rng: &mut Rng, most: usize) -> Vec<u8> {
-    let mut item = vec![CALL, rng.between(1, most) as u8];
+    let routine = rng.between(1, most);
+    call_of(rng, routine)
+}
+
+/// A CALL of a routine of seven parameters.
+fn call_of(rng: &mut Rng, routine: usize) -> Vec<u8> {
+    let mut item = vec![CALL, routine as u8];
     item.extend((0..MAX_PARAMETERS).map(|_| name(rng)));
     item
 }
@@ -364,11 +475,16 @@ fn chain_rising() -> Vec<u8> {
 }
 
 fn chain_falling() -> Vec<u8> {
-    chain(|routine| match routine {
-        0 => Some(MAX_ROUTINES - 1),
+    chain(falling)
+}
+
+/// The next lower routine, for 0 the highest; none for 1, the last of the chain.
+fn falling(routine: usize) -> Option<usize> {
+    match routine {
+        0 => Some(LAST_ROUTINE),
         1 => None,
         _ => Some(routine - 1),
-    })
+    }
 }
 
 fn many_rounds() -> Vec<u8> {
@@ -386,7 +502,9 @@ fn spoilt(mut table: Vec<u8>) -> Vec<u8> {
 #[cfg(test)]
 mod tests {
     use super::*;
+    use crate::canonical::{canonical, order};
     use crate::limits::ROW_BYTES;
+    use crate::table::Item;
     use crate::update::differ_there_alone;
     use crate::updates::own_model;
 
@@ -398,6 +516,34 @@ mod tests {
                 assert_ne!(pair.old, pair.new, "{}", group.name);
                 let routine = pair.routine as u64;
                 assert!(differ_there_alone(&pair.old, &pair.new, routine));
+            }
+        }
+    }
+
+    #[test]
+    fn groups_to_be_written_keep_as_many_routines_as_they_say() {
+        let groups = writing_groups();
+        assert_eq!(groups.len(), ALSO_WRITTEN.len() + 3);
+        for Group { name, tables, .. } in groups {
+            for bytes in &tables {
+                let table = read(bytes).expect("an accepted table");
+                let order = order(&table);
+                if name == "full: LOCKs" {
+                    assert_eq!(order, [0]);
+                } else if name.starts_with("falling: ") || name == "chain: falling" {
+                    let due: Vec<usize> = [0].into_iter().chain((1..MAX_ROUTINES).rev()).collect();
+                    assert_eq!(order, due, "{name}");
+                } else if name == "full: calls" {
+                    assert_eq!(order.len(), MAX_ROUTINES);
+                }
+                let items = table.routines.iter().flat_map(|routine| &routine.items);
+                let mirrors = items.filter(|item| matches!(item, Item::Mirror { .. }));
+                if name == "falling: mirrors" {
+                    let most = MAX_LOCALS as usize * MAX_ROUTINES;
+                    assert_eq!(mirrors.count(), most - MAX_PARAMETERS as usize);
+                    let left_out = bytes.len() - canonical(bytes).map_or(0, |result| result.len());
+                    assert_eq!(left_out, 2 * (most - MAX_PARAMETERS as usize));
+                }
             }
         }
     }

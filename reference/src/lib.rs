@@ -1,5 +1,5 @@
 //! A second analyser and runner of handler tables, written from document 01 and requests
-//! #101, #102 and #104 to #107 of document 02, the customer's papers, apart from what is
+//! #101, #102 and #104 to #108 of document 02, the customer's papers, apart from what is
 //! under test; docs/FORMAT.md is our page on the same format.
 //!
 //! It is kept plain, to be compared against, not to be fast:
@@ -9,16 +9,22 @@
 //! families, and what request #105 moves in them. `runner` runs a table under a schedule,
 //! `desk` is the text of that, and `schedules` gives inputs to try. `update` brings a model
 //! up to date where one routine has another body, `update_cases` and `updates` give inputs
-//! to try, and `update_marks` tells what those have in them. `fast`, `groups` and `timing` are
-//! there for the benchmark alone, `command` has what the binaries share that compare, and
-//! `archive` calls what is under test.
+//! to try, and `update_marks` tells what those have in them. `canonical` writes the canonical
+//! table, `writing_cases`, `writing_tables` and `writings` give inputs to try, `shuffles` gives
+//! tables that must come to the same bytes, and `writing_marks` tells what the inputs have in
+//! them. `fast`, `fast_canonical`, `fast_read`, `groups` and `timing` are there for the benchmark
+//! alone, `command` has what the binaries share that compare, and `archive` calls what is under
+//! test.
 
 #[cfg(feature = "archive")]
 pub mod archive;
+pub mod canonical;
 pub mod cases;
 pub mod command;
 pub mod desk;
 pub mod fast;
+pub mod fast_canonical;
+mod fast_read;
 pub mod frames;
 pub mod generate;
 pub mod groups;
@@ -28,6 +34,7 @@ mod listing;
 pub mod model;
 pub mod runner;
 pub mod schedules;
+pub mod shuffles;
 pub mod small;
 pub mod table;
 pub mod timing;
@@ -35,6 +42,10 @@ pub mod update;
 pub mod update_cases;
 pub mod update_marks;
 pub mod updates;
+pub mod writing_cases;
+pub mod writing_marks;
+pub mod writing_tables;
+pub mod writings;
 
 use limits::{refusal, CHECK_ROUTINE, RING_BASE, RING_NAME, RING_ROUTINE, ROW_BYTES};
 pub use listing::{listing, listing_by, listing_with};

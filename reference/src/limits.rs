@@ -1,4 +1,4 @@
-//! Every number that docs/FORMAT.md and requests #106 and #107 fix, in one place.
+//! Every number that docs/FORMAT.md and requests #106 to #108 fix, in one place.
 
 /// Most routines in a table.
 pub const MAX_ROUTINES: usize = 64;
@@ -43,6 +43,8 @@ pub const CHECK_ROUTINE: u32 = 65_536;
 pub const RING_BASE: u32 = 65_536;
 pub const RING_ROUTINE: u32 = 1_024;
 pub const RING_NAME: u32 = 32;
+/// `canonical_number` of a table that is written: this + the length of the result.
+pub const CANONICAL_BASE: u32 = 65_536;
 
 /// Most threads that a run starts.
 pub const MAX_THREADS: usize = 16;
@@ -90,4 +92,5 @@ pub mod refusal {
     pub const BEYOND: u32 = 17;
     pub const OTHER_TABLE: u32 = 18;
     pub const BAD_MODEL: u32 = 19;
+    pub const SHORT_OUTPUT: u32 = 20;
 }

@@ -62,6 +62,39 @@ impl Table {
     }
 }
 
+impl Item {
+    /// The names that stand in the item, in order.
+    pub fn names(&self) -> &[u8] {
+        match self {
+            Item::Lock { name } | Item::Mirror { name } => std::slice::from_ref(name),
+            Item::Call { names, .. } => names,
+            _ => &[],
+        }
+    }
+
+    /// Whether the item gives the next local name.
+    pub fn makes_local(&self) -> bool {
+        matches!(self, Item::New | Item::Mirror { .. })
+    }
+
+    /// The item with each of its names replaced.
+    pub fn with_names(&self, mut rename: impl FnMut(u8) -> u8) -> Item {
+        match self {
+            Item::Lock { name } => Item::Lock {
+                name: rename(*name),
+            },
+            Item::Mirror { name } => Item::Mirror {
+                name: rename(*name),
+            },
+            Item::Call { routine, names } => Item::Call {
+                routine: *routine,
+                names: names.iter().map(|&name| rename(name)).collect(),
+            },
+            other => other.clone(),
+        }
+    }
+}
+
 impl Routine {
     /// The routine of each CALL, in written order.
     pub fn callees(&self) -> impl Iterator<Item = usize> + '_ {
@@ -84,6 +117,28 @@ impl Routine {
             }
         }
         roots
+    }
+
+    /// For each item, the names in scope where it stands.
+    pub fn scopes(&self) -> Vec<Vec<u8>> {
+        let mut scopes = Vec::new();
+        // Each local in scope, with the number of blocks that are open where it was made.
+        let mut locals: Vec<(usize, u8)> = Vec::new();
+        let mut last = self.parameters;
+        self.walk(|item, open| {
+            locals.retain(|&(depth, _)| depth <= open.len());
+            let names = locals.iter().map(|&(_, name)| name);
+            scopes.push((1..=self.parameters).chain(names).collect());
+            if item.makes_local() {
+                last += 1;
+                locals.push((open.len(), last));
+            }
+            // The second alternative has none of the locals of the first.
+            if *item == Item::Other {
+                locals.retain(|&(depth, _)| depth < open.len());
+            }
+        });
+        scopes
     }
 
     /// The routine with each name in a LOCK or a CALL replaced by the one at its place in

@@ -474,7 +474,12 @@ fn callees(rng: &mut Rng, shape: Shape, n: usize, routine: usize) -> Vec<usize> 
 
 /// A body that takes some of its names and calls these routines, most often with its first
 /// names.
-fn shaped_body(rng: &mut Rng, counts: &[u8], routine: usize, callees: &[usize]) -> Vec<u8> {
+pub(crate) fn shaped_body(
+    rng: &mut Rng,
+    counts: &[u8],
+    routine: usize,
+    callees: &[usize],
+) -> Vec<u8> {
     let parameters = counts[routine];
     let made = if parameters == 0 { 2 } else { rng.below(2) };
     let mut items = vec![NEW; made];
@@ -793,7 +798,7 @@ fn refused_tables(rng: &mut Rng, kind: Kind, turn: usize) -> (Vec<u8>, Vec<u8>, 
 
 /// A table that is refused by this number: the one given with another byte, where such is
 /// found soon, or a boundary table.
-fn refused(rng: &mut Rng, number: u32, sound: &[u8]) -> Vec<u8> {
+pub(crate) fn refused(rng: &mut Rng, number: u32, sound: &[u8]) -> Vec<u8> {
     let mut table = sound.to_vec();
     for _ in 0..20 {
         let at = rng.below(sound.len());

@@ -3,3 +3,4 @@ pub mod Judging
 pub mod Judges
 pub mod Unique
 pub mod LastBytes
+pub mod Judged

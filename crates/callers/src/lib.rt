@@ -9,6 +9,8 @@ ghost use Rattle.runner.specs.Answer.{Runs, Reports};
 ghost use Rattle.runner.specs.Desk.{RunsFresh};
 ghost use Rattle.update.specs.Answer.{Replaced, ReplacedAs};
 ghost use Rattle.update.specs.Answer.{Fits as UpdateFits};
+ghost use Rattle.writer.specs.Answer.{Writes, WritesAs};
+ghost use Rattle.writer.specs.Answer.{Fits as WrittenFits};
 ghost use Rattle.callers.specs.Calls.{clear?, stuck?};
 ghost use mathlib.Core.Bool.{false};
 use analysis::Answer;
@@ -29,6 +31,9 @@ use table::check;
 use update::Updated;
 use update::update;
 use update::vangpear_update;
+use writer::Written;
+use writer::canonical;
+use writer::vangpear_canonical;
 
 // Calls `check`.
 pub fn checked(table: &[u8]) -> Checked
@@ -106,6 +111,21 @@ pub fn brought_for_c(old: &[u8], new: &[u8], routine: u64, model: &mut [u8]) -> 
         (now (model .exit)) n ⌝ }
 {
     vangpear_update(old, new, routine, model)
+}
+
+// Calls `canonical`.
+pub fn written(table: &[u8], out: &mut [u8]) -> Written
+    ensures writes { λ a. ⌜ Writes (now (table .entry)) (now (out .entry)) (now (out .exit)) a ⌝ }
+    ensures fits { λ a. ⌜ WrittenFits a ⌝ }
+{
+    canonical(table, out)
+}
+
+// Calls `vangpear_canonical`.
+pub fn written_for_c(table: &[u8], out: &mut [u8]) -> u32
+    ensures { λ n. ⌜ WritesAs (now (table .entry)) (now (out .entry)) (now (out .exit)) n ⌝ }
+{
+    vangpear_canonical(table, out)
 }
 
 // Whether an answer is that the table is clear.

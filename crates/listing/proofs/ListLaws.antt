@@ -18,7 +18,8 @@ use Rattle.analysis.specs.declared.Verdict.{Verdict}
 use Rattle.analysis.specs.declared.Answer.{Answer}
 use Rattle.analysis.specs.declared.Answer.the-variants.{Judged, Refused}
 use Rattle.listing.specs.Text.{listing, Listed}
-use Rattle.listing.specs.laws.Appending.{Appends, sets-over}
+use Rattle.append.specs.Appending.{Appends}
+use Rattle.listing.specs.laws.Texts.{sets-over}
 use Rattle.listing.specs.laws.Digits.{FewDigits}
 
 -- the answers are of two kinds

@@ -1,3 +1,3 @@
-pub mod Appending
+pub mod Texts
 pub mod Digits
 pub mod Unique

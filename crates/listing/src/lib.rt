@@ -6,7 +6,7 @@ ghost use Rattle.table.specs.Constants.{most-routines};
 ghost use Rattle.analysis.specs.Answer.{Short};
 ghost use Rattle.analysis.specs.declared.Answer.the-variants.{Judged};
 ghost use Rattle.listing.specs.Text.{Listed, listing, longest};
-ghost use Rattle.listing.specs.laws.Appending.{Appends};
+ghost use Rattle.append.specs.Appending.{Appends};
 ghost use Rattle.listing.specs.laws.Digits.{FewDigits};
 
 mod lines;

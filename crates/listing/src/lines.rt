@@ -7,7 +7,7 @@ ghost use Rattle.table.specs.Constants.{most-routines, row-names};
 ghost use Rattle.analysis.specs.Answer.{Short};
 ghost use Rattle.listing.specs.Text.{cellLine, each, line, pair-word, pairLines, ring-word, shareLine, verdictLine};
 ghost use Rattle.listing.specs.laws.Digits.{FewDigits};
-ghost use Rattle.listing.specs.laws.Appending.{Appends};
+ghost use Rattle.append.specs.Appending.{Appends};
 use crate::text::put;
 use crate::text::put_number;
 use analysis::Share;

@@ -1,26 +1,15 @@
-// Bytes, words and decimal numbers, appended to a text in a lent buffer. What has no room there is left out; the place
+// Words and decimal numbers, appended to a text in a lent buffer. What has no room there is left out; the place
 // counts it all the same.
-ghost use mathlib.Core.List.{[], _∷_};
+ghost use mathlib.Core.List.{_∷_};
 ghost use Prim.Native.Nat.{_+_, _≤_, _<_};
 ghost use lib.ListN.{length};
 ghost use Rattle.listing.specs.Text.{decimal, space};
-ghost use Rattle.listing.specs.laws.Appending.{Appends};
+ghost use Rattle.append.specs.Appending.{Appends};
+use append::put_byte;
 
 const SPACE: u8 = 32;
 
 const ZERO: u8 = 48;
-
-// Appends a byte.
-fn put_byte(out: &mut [u8], at: usize, b: u8) -> usize
-    requires { ⌜ at < 1000000 ⌝ }
-    ensures { λ r. ⌜ Appends at (b ∷ []) (now (out .entry)) (now (out .exit)) r ⌝ }
-{
-    if out.len() <= at {
-        return at + 1;
-    }
-    out[at] = b;
-    at + 1
-}
 
 // Appends the bytes of w.
 pub fn put(out: &mut [u8], at: usize, w: &[u8]) -> usize

@@ -325,11 +325,5 @@ fn run(seed: u64, count: u64) -> Result<String, String> {
 }
 
 fn main() -> ExitCode {
-    match command::seed_and_count(DEFAULT_SEED, DEFAULT_COUNT) {
-        Some((seed, count)) => command::end(run(seed, count)),
-        None => {
-            eprintln!("usage: compare [SEED [COUNT]]");
-            ExitCode::from(command::MISUSED)
-        }
-    }
+    command::seeded("compare", DEFAULT_SEED, DEFAULT_COUNT, run)
 }

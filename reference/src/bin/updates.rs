@@ -16,7 +16,7 @@ use std::collections::BTreeMap;
 use std::process::ExitCode;
 
 use reference::archive;
-use reference::command;
+use reference::command::{self, listed};
 use reference::limits::ROW_BYTES;
 use reference::update::{number, update_by, update_number, Way, WRONG};
 use reference::update_cases::by_hand;
@@ -119,14 +119,6 @@ fn text(input: &Input) -> String {
     )
 }
 
-/// Names with their counts, in a row.
-fn listed<'a>(counts: impl Iterator<Item = (&'a str, u64)>) -> String {
-    let words: Vec<String> = counts
-        .map(|(name, count)| format!("{name}: {count}"))
-        .collect();
-    words.join(", ")
-}
-
 /// Compares everything; the summary, or the first difference.
 fn run(seed: u64, count: u64) -> Result<String, String> {
     let mut answers = Answers::new();
@@ -202,11 +194,5 @@ fn run(seed: u64, count: u64) -> Result<String, String> {
 }
 
 fn main() -> ExitCode {
-    match command::seed_and_count(DEFAULT_SEED, DEFAULT_COUNT) {
-        Some((seed, count)) => command::end(run(seed, count)),
-        None => {
-            eprintln!("usage: updates [SEED [COUNT]]");
-            ExitCode::from(command::MISUSED)
-        }
-    }
+    command::seeded("updates", DEFAULT_SEED, DEFAULT_COUNT, run)
 }

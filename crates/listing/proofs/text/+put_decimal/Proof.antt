@@ -1,6 +1,6 @@
 -- `put_decimal` meets its contract: a tenth of the number, if it is not 0, and then the last digit. The measure is n.
 use Prim.Native.Nat.{_/_}
-use Rattle.listing.specs.laws.Appending.{then, equal-text}
+use Rattle.append.specs.Appending.{then, equal-text}
 use Rattle.listing.proofs.DecimalLaws.{decimal-few, decimal-one, decimal-more}
 use borrow.Author.Needs.{needs}
 use native.Mathlib.Omega.{arith}
@@ -10,7 +10,7 @@ use borrow.Fn.PlainCycle.{Measures, is, falls, and}
 use Rattle.listing.proofs.text.put_decimal.Reads as put-decimal
 use Rattle.listing.proofs.text.put_decimal.Kinds as put-decimal-kinds
 use Rattle.listing.proofs.text.+put_decimal.Lts-put_decimal as put-decimal-lts
-use Rattle.listing.proofs.text.put_byte.Reads as put-byte-reads
+use Rattle.append.proofs.put_byte.Reads as put-byte-reads
 use Rattle.listing.proofs.text.+put_decimal.{statement}
 use Rattle.listing.proofs.text.+put_decimal.Tie.{close}
 

@@ -2,7 +2,7 @@
 use mathlib.Core.Path.{_≡_}
 use Prim.Native.Nat.{_+_, _≤_, _-_}
 use lib.ListN.{length, take}
-use Rattle.listing.specs.laws.Appending.{Appends, nothing, one-more, all, same-size}
+use Rattle.append.specs.Appending.{Appends, nothing, one-more, all, same-size}
 use borrow.Author.Needs.{needs}
 use native.Mathlib.Omega.{arith}
 use Rattle.listing.proofs.text.put.Statement.{statement}

@@ -1,0 +1,1 @@
+// The one way to write a table: definitions and theorems alone, no code.

@@ -1,0 +1,3 @@
+pub mod OrderLaws
+pub mod MeetLaws
+pub mod DiscoverLaws

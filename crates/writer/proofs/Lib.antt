@@ -1,0 +1,4 @@
+pub mod TableLaws
+pub mod CanonLaws
+pub mod WriteLaws
+pub mod AnswerLaws

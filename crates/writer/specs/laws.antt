@@ -1,0 +1,5 @@
+-- What follows from the contract.
+pub mod Fits
+pub mod Unique
+pub mod Same
+pub mod Rows
