@@ -1,6 +1,6 @@
-/* launcher [--hex] [--model FILE] [--] TABLE: judges one handler table; launcher [--hex] --update [--] OLD NEW ROUTINE
- * MODEL: brings a model up to date where one routine is replaced; launcher [--hex] --canonical FILE [--] TABLE: writes
- * a table in the one way; --help says it all. */
+/* launcher [--hex] [--model FILE] [--] TABLE: judges one handler table, or with --rounds counts the rounds that this
+ * takes; launcher [--hex] --update [--] OLD NEW ROUTINE MODEL: brings a model up to date where one routine is replaced;
+ * launcher [--hex] --canonical FILE [--] TABLE: writes a table in the one way; --help says it all. */
 #define _XOPEN_SOURCE 700 /* for a file that is put in the place of another */
 
 #include "refusals.h"
@@ -36,18 +36,20 @@
 enum { CLEAR = 0, DONE = 0, RING = 1, REFUSED = 2, TROUBLE = 3 };
 
 static const char help[] =
-    "usage: launcher [--hex] [--model FILE] [--] TABLE\n"
+    "usage: launcher [--hex] [--rounds] [--model FILE] [--] TABLE\n"
     "       launcher [--hex] --update [--] OLD NEW ROUTINE MODEL\n"
     "       launcher [--hex] --canonical FILE [--] TABLE\n"
     "\n"
     "Judges a handler table, whose format is in docs/FORMAT.md, and prints one line: `clear`, `ring` with a routine\n"
     "and a name, or `refused` with a number. What a ring or a refusal means is said in words on standard error.\n"
+    "With --rounds it prints, in the place of the verdict, `rounds` and in how many rounds the model is worked out.\n"
     "With --update it brings the model of a table up to date where one of its routines is replaced, and prints\n"
     "`done`, or `refused` with a number. That is no verdict: the new table is judged by itself.\n"
     "With --canonical it writes the canonical table of a table, the one way to write it, and prints `canonical` with\n"
     "its length in bytes, or `refused` with a number.\n"
     "\n"
     "  TABLE             a table's bytes; - for standard input\n"
+    "  --rounds          counts the rounds, with the one that leaves all rows as they were\n"
     "  --model FILE      writes the model of TABLE to FILE, 65 bytes for each routine\n"
     "  --canonical FILE  writes the canonical table of TABLE to FILE, which can be TABLE\n"
     "  --update          brings MODEL up to date: the body of ROUTINE is replaced, which makes OLD into NEW\n"
@@ -64,8 +66,8 @@ static const char help[] =
     "No more of a table is read than the largest table needs. FILE and MODEL are written before anything is printed:\n"
     "a new file in the same folder is put in the place of the old one, which is still there if that fails. A refusal\n"
     "leaves them as they are.\n"
-    "Exit status: 0 clear, done or canonical, 1 ring, 2 refused, 3 trouble (no such file, no hexadecimal text, output\n"
-    "that cannot be written and the like).\n";
+    "Exit status: 0 clear, done, canonical or rounds, 1 ring, 2 refused, 3 trouble (no such file, no hexadecimal\n"
+    "text, output that cannot be written and the like).\n";
 
 static void trouble(const char *name, const char *what)
 {
@@ -331,6 +333,18 @@ static int judge(const uint8_t *table, size_t length, const char *file)
     return RING;
 }
 
+/* Counts the rounds in which the model of a table is worked out, writes the model to a file unless its name is null,
+ * prints the number, and gives the exit status. */
+static int count(const uint8_t *table, size_t length, const char *file)
+{
+    uint8_t model[VANGPEAR_MODEL];
+    uint32_t answer = vangpear_rounds(table, length, model, sizeof model);
+    if (answer < VANGPEAR_ROUNDS) return refuse(answer, "refused");
+    if (file != NULL && !write_file(file, "model", model, VANGPEAR_ROW * table[0])) return TROUBLE;
+    printf("rounds %u\n", (unsigned)VANGPEAR_ROUNDS_NUMBER(answer));
+    return written() ? DONE : TROUBLE;
+}
+
 /* What the arguments ask for. */
 struct order {
     /* The table; or, with --update, the old table, the new one, the routine's number and the model's file. */
@@ -341,16 +355,18 @@ struct order {
     const char *model;
     const char *canonical;
     bool hex;
+    bool rounds;
     bool update;
     bool help;
 };
 
-/* Reads the one table, and judges it. */
+/* Reads the one table, and judges it or counts its rounds. */
 static int judge_file(const struct order *order)
 {
     static uint8_t table[TEXT_LIMIT + 1];
     long length = read_table(order->words[0], order->hex, table, sizeof table);
-    return length < 0 ? TROUBLE : judge(table, (size_t)length, order->model);
+    if (length < 0) return TROUBLE;
+    return order->rounds ? count(table, (size_t)length, order->model) : judge(table, (size_t)length, order->model);
 }
 
 /* Reads a model, with the bytes behind its rows. Gives the number of bytes, or -1 if that cannot be done, which it
@@ -427,6 +443,8 @@ static bool take_option(const char *word, struct order *order)
 {
     if (strcmp(word, "--hex") == 0) {
         order->hex = true;
+    } else if (strcmp(word, "--rounds") == 0) {
+        order->rounds = true;
     } else if (strcmp(word, "--update") == 0) {
         order->update = true;
     } else if (strcmp(word, "--help") == 0 || strcmp(word, "-h") == 0) {
@@ -470,10 +488,12 @@ static bool take_words(struct order *order)
     if (order->help) return true;
     if ((order->model != NULL) + (order->canonical != NULL) + order->update > 1)
         return misused("", "--model, --canonical and --update do not go together");
+    if (order->rounds && (order->canonical != NULL || order->update))
+        return misused("", "--rounds does not go together with --canonical or --update");
     if (order->update) return take_update(order);
     if (order->count == 0)
-        return misused("", "usage: launcher [--hex] [--model FILE | --canonical FILE] [--] TABLE, and - is standard "
-                           "input; or launcher [--hex] --update [--] OLD NEW ROUTINE MODEL");
+        return misused("", "usage: launcher [--hex] [[--rounds] [--model FILE] | --canonical FILE] [--] TABLE, and - "
+                           "is standard input; or launcher [--hex] --update [--] OLD NEW ROUTINE MODEL");
     return order->count == 1 || misused("", "one table at a time");
 }
 

@@ -1,9 +1,10 @@
-/* Vangpear: whether a handler table is accepted, and whether its threads can wait for each other's locks.
+/* Vangpear: whether a handler table is accepted, whether its threads can wait for each other's locks, and in how many
+ * rounds that is worked out.
  * C11, usable from C++. docs/FORMAT.md has the format of a table, the rules, and all the numbers below.
  *
  * Link with the archive that `rt staticlib analysis` writes, target/staticlib/libanalysis.a. The calls keep no state,
  * take no memory of their own, write nothing but what is said here, and are proved to end for every input. They use
- * less than 10 KiB of stack (10,132 bytes measured): have 16 KiB free. Two calls may run at the same time on different
+ * less than 12 KiB of stack (12,148 bytes measured): have 20 KiB free. Two calls may run at the same time on different
  * model buffers. What each refusal's number means is in refusals.h. */
 #ifndef VANGPEAR_H
 #define VANGPEAR_H
@@ -42,6 +43,15 @@ extern "C" {
 #define VANGPEAR_RING_ROUTINE(answer) (((answer) - VANGPEAR_RING) / 1024u)
 #define VANGPEAR_RING_NAME(answer) (((answer) - VANGPEAR_RING) % 1024u / 32u)
 
+/* What vangpear_rounds gives for an accepted table is VANGPEAR_ROUNDS + the number of rounds: this takes it apart. (The
+ * number by itself can be 1 to 15, which are refusals.) */
+#define VANGPEAR_ROUNDS 65536u
+#define VANGPEAR_ROUNDS_NUMBER(answer) ((answer) - VANGPEAR_ROUNDS)
+
+/* A table of so many routines needs no more rounds than this; and where no calls lead from a routine back to it, no
+ * more than one for each routine and one besides. */
+#define VANGPEAR_MOST_ROUNDS(routines) (148u * (routines) + 1u)
+
 /* Checks the `length` bytes at `table`, which may be of any number and content; `table` may be null only where `length`
  * is 0. Gives the refusal's number, 1 to 14, or VANGPEAR_ROUTINE * routines + items. Writes nothing. */
 uint32_t vangpear_check(const uint8_t *table, size_t length);
@@ -53,6 +63,12 @@ uint32_t vangpear_check(const uint8_t *table, size_t length);
  * a caller who wants it has to find the routines that calls reach, in the table, and to count those of them whose last
  * byte in the model is 0 (docs/FORMAT.md). */
 uint32_t vangpear_analyse(const uint8_t *table, size_t length, uint8_t *model, size_t size);
+
+/* Does all that vangpear_analyse does, with the same refusals and the same bytes in the buffer afterwards, and gives
+ * the refusal's number, 1 to 15, or VANGPEAR_ROUNDS + the number of rounds. In a round each row is worked out from what
+ * the rows were before that round, at first all zero. When a round leaves all of them as they were the model is there;
+ * that round counts, too. The number is no verdict: a caller who wants both makes both calls. */
+uint32_t vangpear_rounds(const uint8_t *table, size_t length, uint8_t *model, size_t size);
 
 #ifdef __cplusplus
 }

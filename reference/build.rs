@@ -1,5 +1,5 @@
-//! Hands archives to the linker, for the binaries `compare`, `bench`, `small`, `updates` and
-//! `writings` alone.
+//! Hands archives to the linker, for the binaries `compare`, `bench`, `small`, `rounds`, `updates`
+//! and `writings` alone.
 //!
 //! VANGPEAR_ARCHIVE_DIR is the archives' folder, VANGPEAR_ARCHIVE their names without `lib`
 //! and `.a`, apart by spaces. Nothing is linked unless the feature `archive` is on.
@@ -33,7 +33,7 @@ fn main() {
 fn hand_over(archive: &Path) {
     let archive = archive.canonicalize().unwrap_or(archive.to_path_buf());
     println!("cargo:rerun-if-changed={}", archive.display());
-    for binary in ["compare", "bench", "small", "updates", "writings"] {
+    for binary in ["compare", "bench", "small", "rounds", "updates", "writings"] {
         println!("cargo:rustc-link-arg-bin={binary}={}", archive.display());
     }
 }

@@ -12,6 +12,8 @@ extern "C" {
         model: *mut u8,
         model_len: usize,
     ) -> u32;
+    fn vangpear_rounds(table: *const u8, table_len: usize, model: *mut u8, model_len: usize)
+        -> u32;
     fn vangpear_update(
         old: *const u8,
         old_len: usize,
@@ -33,6 +35,12 @@ pub fn analyse(table: &[u8], model: &mut [u8]) -> u32 {
     // SAFETY: pointers and lengths are those of two slices that do not overlap,
     // lent for the call.
     unsafe { vangpear_analyse(table.as_ptr(), table.len(), model.as_mut_ptr(), model.len()) }
+}
+
+pub fn rounds(table: &[u8], model: &mut [u8]) -> u32 {
+    // SAFETY: pointers and lengths are those of two slices that do not overlap,
+    // lent for the call.
+    unsafe { vangpear_rounds(table.as_ptr(), table.len(), model.as_mut_ptr(), model.len()) }
 }
 
 pub fn update(old: &[u8], new: &[u8], routine: u64, model: &mut [u8]) -> u32 {

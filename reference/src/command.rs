@@ -1,7 +1,13 @@
-//! What the binaries that compare have in common: their words, and how they end.
+//! What the binaries have in common: their words, what they read, tables that all go over, and how
+//! they end.
 
 use std::env;
+use std::io::{self, Read};
 use std::process::ExitCode;
+
+use crate::cases::{rules, worked};
+use crate::generate::boundaries;
+use crate::limits::READ_LIMIT;
 
 /// The exit status where the words make no sense.
 pub const MISUSED: u8 = 2;
@@ -45,6 +51,44 @@ pub fn seeded(
             ExitCode::from(MISUSED)
         }
     }
+}
+
+/// The table on standard input.
+pub fn stdin() -> Result<Vec<u8>, String> {
+    let mut table = Vec::new();
+    io::stdin()
+        .lock()
+        .take(READ_LIMIT as u64)
+        .read_to_end(&mut table)
+        .map_err(|error| format!("standard input: {error}"))?;
+    Ok(table)
+}
+
+/// A table with what it is.
+pub type Named = (String, Vec<u8>);
+
+/// The worked cases, a table for each rule and the boundary tables; and how many these are, in words.
+pub fn fixed() -> (Vec<Named>, String) {
+    let named = |what: &str, name: &str, table: &[u8]| (format!("{what} {name}"), table.to_vec());
+    let worked = worked();
+    let rules = rules();
+    let boundaries = boundaries();
+    let count = format!(
+        "{} worked, {} rule, {} boundary",
+        worked.len(),
+        rules.len(),
+        boundaries.len()
+    );
+    let worked = worked
+        .iter()
+        .map(|case| named("worked case", case.name, &case.table));
+    let rules = rules
+        .iter()
+        .map(|case| named("rule:", case.name, &case.table));
+    let boundaries = boundaries
+        .iter()
+        .map(|boundary| named("boundary table:", &boundary.what, &boundary.table));
+    (worked.chain(rules).chain(boundaries).collect(), count)
 }
 
 /// Names with their counts, in a row.

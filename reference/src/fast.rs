@@ -4,13 +4,17 @@
 //!
 //! The pass over the bytes that checks them (`fast_read`) records the pair of each LOCK and lists each
 //! CALL, so that no byte is parsed a second time. Pairs are bit matrices, one a label. A routine is due
-//! while a row that it calls has changed; the routines due are the bits of one number. Nothing is taken
-//! from the heap.
+//! in a round if a row that it calls changed in the one before, and takes what those rows gained; the
+//! routines due are the bits of one number. So the rounds are counted exactly. Nothing is taken from the
+//! heap.
+//!
+//! `sweep_number` does the same job but for the count, in sweeps that use a row as soon as it is worked
+//! out. It is there to tell what the count costs.
 
 use crate::fast_read::{self, head, read_body, Called, List, Listener, Renaming, NAMES};
 use crate::limits::{refusal, MAX_FORK, MAX_PARAMETERS, MAX_ROUTINES, MAX_SECTION};
 use crate::limits::{CELL_OWN, CELL_SEVERAL, CELL_UNKNOWN, RING_BYTE, ROW_BYTES, ROW_SIDE};
-use crate::limits::{RING_BASE, RING_NAME, RING_ROUTINE};
+use crate::limits::{RING_BASE, RING_NAME, RING_ROUTINE, ROUNDS_BASE};
 
 /// Labels: own, the forks from 1 on, unknown, several; and how many there are.
 const OWN: usize = 0;
@@ -53,14 +57,13 @@ impl Row {
     }
 }
 
-/// One CALL: where its names stand in the section, its place, and what it has taken of the row.
+/// One CALL: where its names stand in the section, and its place.
 #[derive(Clone, Copy)]
 struct Call {
     names: u16,
     routine: u8,
     holder: u8,
     thread: u8,
-    taken: Row,
 }
 
 /// What is known of one routine.
@@ -84,11 +87,12 @@ struct Body {
     /// For each name the one that its pairs are recorded under and that nests go by.
     roots: Renaming,
     row: Row,
-    /// Routines as bits: those it calls, those that call it, and those whose rows have changed since
-    /// their pairs were taken.
+    /// What the row gained in the last round that changed it, and what it is to be after this one.
+    gained: Row,
+    next: Row,
+    /// Routines as bits: those it calls, and those that call it.
     callees: u64,
     callers: u64,
-    changed: u64,
 }
 
 impl Body {
@@ -105,9 +109,10 @@ impl Body {
             after_calls: first_call as u16,
             roots: Renaming::NONE,
             row: Row::default(),
+            gained: Row::default(),
+            next: Row::default(),
             callees: 0,
             callers: 0,
-            changed: 0,
         }
     }
 
@@ -136,43 +141,117 @@ struct Program<const R: usize, const C: usize> {
     calls: List<Call, C>,
 }
 
+/// What is found in a table: the numbers of the verdict and of the rounds.
+struct Found {
+    verdict: u32,
+    rounds: u32,
+}
+
 /// Writes the model into the head of `buffer` and gives the verdict, as the archive's analysis does.
 pub fn analyse_number(table: &[u8], buffer: &mut [u8]) -> u32 {
-    let (counts, section) = match head(table) {
-        Ok(parts) => parts,
-        Err(number) => return number,
-    };
-    if counts.len() <= FEW_ROUTINES && section.len() <= SMALL_SECTION {
-        analyse::<FEW_ROUTINES, { SMALL_SECTION / CALL_BYTES }>(counts, section, buffer)
-    } else {
-        analyse::<MAX_ROUTINES, { MAX_SECTION / CALL_BYTES }>(counts, section, buffer)
+    match found::<InRounds>(table, buffer, &mut Nobody) {
+        Ok(found) => found.verdict,
+        Err(number) => number,
     }
 }
 
-/// `analyse_number` behind the head, for a table of at most R routines and C calls.
+/// The same with the number of rounds in place of the verdict.
+pub fn rounds_number(table: &[u8], buffer: &mut [u8]) -> u32 {
+    match found::<InRounds>(table, buffer, &mut Nobody) {
+        Ok(found) => ROUNDS_BASE + found.rounds,
+        Err(number) => number,
+    }
+}
+
+/// `analyse_number` in sweeps, without a count of rounds.
+pub fn sweep_number(table: &[u8], buffer: &mut [u8]) -> u32 {
+    match found::<InSweeps>(table, buffer, &mut Nobody) {
+        Ok(found) => found.verdict,
+        Err(number) => number,
+    }
+}
+
+/// How often a row of a table is worked out: in rounds, and in sweeps.
+pub fn rows_worked_out(table: &[u8]) -> [usize; 2] {
+    let mut buffer = [0; ROW_BYTES * MAX_ROUTINES];
+    let (mut in_rounds, mut in_sweeps) = (Rows(0), Rows(0));
+    let _ = found::<InRounds>(table, &mut buffer, &mut in_rounds);
+    let _ = found::<InSweeps>(table, &mut buffer, &mut in_sweeps);
+    [in_rounds.0, in_sweeps.0]
+}
+
+/// Who is told of each row that is worked out.
+trait Told {
+    fn row(&mut self);
+}
+
+struct Nobody;
+
+impl Told for Nobody {
+    #[inline(always)]
+    fn row(&mut self) {}
+}
+
+/// Counts the rows.
+struct Rows(usize);
+
+impl Told for Rows {
+    fn row(&mut self) {
+        self.0 += 1;
+    }
+}
+
+/// How the rows are worked out.
+trait Settle {
+    /// Works out all rows and rings. There are at most R bodies and C calls. Gives the number of rounds
+    /// where it counts them.
+    fn settle<const R: usize, const C: usize>(
+        section: &[u8],
+        bodies: &mut [Body],
+        calls: &[Call],
+        told: &mut impl Told,
+    ) -> u32;
+}
+
+/// Writes the model into the head of `buffer`, or gives the refusal.
+#[inline(always)]
+fn found<S: Settle>(table: &[u8], buffer: &mut [u8], told: &mut impl Told) -> Result<Found, u32> {
+    let (counts, section) = head(table)?;
+    if counts.len() <= FEW_ROUTINES && section.len() <= SMALL_SECTION {
+        const FEW_CALLS: usize = SMALL_SECTION / CALL_BYTES;
+        analyse::<S, FEW_ROUTINES, FEW_CALLS>(counts, section, buffer, told)
+    } else {
+        const MOST_CALLS: usize = MAX_SECTION / CALL_BYTES;
+        analyse::<S, MAX_ROUTINES, MOST_CALLS>(counts, section, buffer, told)
+    }
+}
+
+/// `found` behind the head, for a table of at most R routines and C calls.
 #[inline(never)]
-fn analyse<const R: usize, const C: usize>(
+fn analyse<S: Settle, const R: usize, const C: usize>(
     counts: &[u8],
     section: &[u8],
     buffer: &mut [u8],
-) -> u32 {
+    told: &mut impl Told,
+) -> Result<Found, u32> {
     let mut program = Program::<R, C> {
         bodies: List::new(),
         calls: List::new(),
     };
-    if let Err(number) = read(counts, section, &mut program) {
-        return number;
-    }
+    read(counts, section, &mut program)?;
     if buffer.len() < ROW_BYTES * counts.len() {
-        return refusal::SHORT_BUFFER;
+        return Err(refusal::SHORT_BUFFER);
     }
     let calls = program.calls.all_mut();
     let bodies = program.bodies.all_mut();
-    settle(section, bodies, calls);
+    let rounds = S::settle::<R, C>(section, bodies, calls, told);
     for (body, bytes) in bodies.iter().zip(buffer.chunks_exact_mut(ROW_BYTES)) {
         write_row(body, bytes);
     }
-    verdict(bodies)
+    Ok(Found {
+        verdict: verdict(bodies),
+        rounds,
+    })
 }
 
 /// Refusals 7 to 14; reads all bodies.
@@ -278,7 +357,6 @@ impl<const C: usize> Listener for Recorder<'_, C> {
                 routine: call.routine,
                 holder: here.holder,
                 thread: here.thread,
-                taken: Row::default(),
             });
         }
     }
@@ -289,29 +367,181 @@ impl<const C: usize> Listener for Recorder<'_, C> {
     }
 }
 
-/// Works out rows until none is due, in sweeps from the highest routine down. A routine without
-/// parameters has an empty row, which no caller waits for: its rings are worked out once, at the end.
-fn settle(section: &[u8], bodies: &mut [Body], calls: &mut [Call]) {
-    let mut seen = 0u64;
+/// The routines with parameters, as bits. The row of any other is empty and never changes, so that no
+/// caller waits for it: its rings are worked out at the end.
+fn with_parameters(bodies: &[Body]) -> u64 {
+    let mut seen = 0;
     for (routine, body) in bodies.iter().enumerate() {
         seen |= u64::from(body.parameters != 0) << routine;
     }
-    let mut due = seen;
-    let mut fresh = seen;
-    let mut last = 0;
-    while due != 0 {
-        let routine = next_due(due, last);
-        last = routine;
-        due ^= 1 << routine;
-        let grown = take_calls(section, bodies, calls, routine);
-        if grown || fresh >> routine & 1 == 1 {
-            due |= work_out(bodies, routine) & seen;
+    seen
+}
+
+/// All routines but these.
+fn others(bodies: &[Body], seen: u64) -> impl Iterator<Item = usize> {
+    ones(!seen & u64::MAX >> (MAX_ROUTINES - bodies.len()))
+}
+
+/// In rounds, each from the rows of the one before.
+struct InRounds;
+
+impl Settle for InRounds {
+    #[inline(always)]
+    fn settle<const R: usize, const C: usize>(
+        section: &[u8],
+        bodies: &mut [Body],
+        calls: &[Call],
+        told: &mut impl Told,
+    ) -> u32 {
+        let seen = with_parameters(bodies);
+        // Round 1: all rows are empty, so that there is nothing to take.
+        let mut round = 1;
+        // The rows whose cells changed in this round, and those in the round before.
+        let (mut changed, mut last) = (0u64, 0u64);
+        // Whether a ring came in this round where there was none.
+        let mut rung = false;
+        for routine in ones(seen) {
+            let body = &mut bodies[routine];
+            if body.used != 0 {
+                told.row();
+                let (row, rings) = close(body);
+                (body.row, body.gained, body.rings) = (row, row, rings);
+                changed |= u64::from(row != Row::default()) << routine;
+                rung |= rings != 0;
+            }
         }
-        fresh &= !(1 << routine);
+        while changed != 0 {
+            round += 1;
+            last = std::mem::take(&mut changed);
+            rung = false;
+            let mut due = 0;
+            for routine in ones(last) {
+                due |= bodies[routine].callers;
+            }
+            for routine in ones(due & seen) {
+                if take_calls(section, bodies, calls, routine, last, |callee| {
+                    callee.gained
+                }) {
+                    told.row();
+                    let body = &mut bodies[routine];
+                    let (row, rings) = close(body);
+                    rung |= body.rings == 0 && rings != 0;
+                    body.rings = rings;
+                    body.next = row;
+                    changed |= u64::from(row != body.row) << routine;
+                }
+            }
+            // No row of this round is used before its end.
+            for routine in ones(changed) {
+                let body = &mut bodies[routine];
+                body.gained = body.next.without(body.row);
+                body.row = body.next;
+            }
+        }
+        let mut steady = Steady { round, last, rung };
+        for routine in others(bodies, seen) {
+            steady.rung |= ring_comes(section, bodies, calls, routine, &steady, told);
+        }
+        round + u32::from(steady.rung)
     }
-    for routine in ones(!seen & u64::MAX >> (MAX_ROUTINES - bodies.len())) {
-        take_calls(section, bodies, calls, routine);
-        work_out(bodies, routine);
+}
+
+/// The first round that changes no cell. It is the last one unless a ring comes in it.
+struct Steady {
+    round: u32,
+    /// The rows that changed in the round before, as bits.
+    last: u64,
+    /// Whether a routine is known whose first ring comes in this round.
+    rung: bool,
+}
+
+/// Works out the rings of a routine without parameters, from rows that are settled. Says whether the
+/// first of them comes in the round that is steady; where such a routine is known, that may be missed.
+fn ring_comes(
+    section: &[u8],
+    bodies: &mut [Body],
+    calls: &[Call],
+    routine: usize,
+    steady: &Steady,
+    told: &mut impl Told,
+) -> bool {
+    let callees = bodies[routine].callees;
+    let last = callees & steady.last;
+    let recorded = (!steady.rung && last != 0).then(|| bodies[routine]);
+    take_calls(section, bodies, calls, routine, callees, |callee| {
+        callee.row
+    });
+    told.row();
+    let (_, rings) = close(&bodies[routine]);
+    let mut comes = rings != 0 && steady.round == 1;
+    if let Some(recorded) = recorded.filter(|_| rings != 0) {
+        // Once more, without what came in the round before.
+        bodies[routine] = recorded;
+        let others = callees & !last;
+        take_calls(section, bodies, calls, routine, others, |callee| callee.row);
+        let before = |callee: &Body| callee.row.without(callee.gained);
+        take_calls(section, bodies, calls, routine, last, before);
+        told.row();
+        comes = close(&bodies[routine]).1 == 0;
+    }
+    bodies[routine].rings = rings;
+    comes
+}
+
+/// In sweeps from the highest routine down, until none is due.
+struct InSweeps;
+
+impl Settle for InSweeps {
+    #[inline(always)]
+    fn settle<const R: usize, const C: usize>(
+        section: &[u8],
+        bodies: &mut [Body],
+        calls: &[Call],
+        told: &mut impl Told,
+    ) -> u32 {
+        let seen = with_parameters(bodies);
+        // For each routine those whose rows have changed since their pairs were taken, as bits.
+        let mut changed = [0u64; R];
+        // What each CALL has taken of its row.
+        let mut taken = List::<Row, C>::new();
+        for _ in calls {
+            taken.push(Row::default());
+        }
+        let taken = taken.all_mut();
+        let mut due = seen;
+        let mut fresh = seen;
+        let mut before = 0;
+        while due != 0 {
+            let routine = next_due(due, before);
+            before = routine;
+            due ^= 1 << routine;
+            let new = std::mem::take(&mut changed[routine]);
+            let grown = take_news(section, bodies, calls, taken, routine, new);
+            if grown || fresh >> routine & 1 == 1 {
+                told.row();
+                let body = &mut bodies[routine];
+                let (row, rings) = close(body);
+                body.rings = rings;
+                if row != body.row {
+                    body.row = row;
+                    let callers = body.callers;
+                    for caller in ones(callers) {
+                        changed[caller] |= 1 << routine;
+                    }
+                    due |= callers & seen;
+                }
+            }
+            fresh &= !(1 << routine);
+        }
+        for routine in others(bodies, seen) {
+            let callees = bodies[routine].callees;
+            take_calls(section, bodies, calls, routine, callees, |callee| {
+                callee.row
+            });
+            told.row();
+            bodies[routine].rings = close(&bodies[routine]).1;
+        }
+        0
     }
 }
 
@@ -322,39 +552,52 @@ fn next_due(due: u64, last: usize) -> usize {
     sweep.ilog2() as usize
 }
 
-/// Works out the row and the rings of a routine from its pairs; the callers due for that, as bits.
-fn work_out(bodies: &mut [Body], routine: usize) -> u64 {
-    let body = &mut bodies[routine];
-    let (row, rings) = close(body);
-    body.rings = rings;
-    if row == body.row {
-        return 0;
+/// Takes a part of the rows of these routines into the pairs of one that calls them; says whether that
+/// added any.
+#[inline(always)]
+fn take_calls(
+    section: &[u8],
+    bodies: &mut [Body],
+    calls: &[Call],
+    routine: usize,
+    callees: u64,
+    part: impl Fn(&Body) -> Row,
+) -> bool {
+    let body = &bodies[routine];
+    let mut grown = false;
+    for call in &calls[body.first_call as usize..body.after_calls as usize] {
+        if callees >> call.routine & 1 == 1 {
+            let callee = &bodies[call.routine as usize];
+            let names = &section[call.names as usize..][..callee.parameters as usize];
+            let row = part(callee);
+            grown |= take_row(&mut bodies[routine], call, names, row);
+        }
     }
-    body.row = row;
-    let callers = body.callers;
-    for caller in ones(callers) {
-        bodies[caller].changed |= 1 << routine;
-    }
-    callers
+    grown
 }
 
-/// Takes what is new in the rows that have changed into the pairs of a routine that calls them; says
-/// whether that added any.
-fn take_calls(section: &[u8], bodies: &mut [Body], calls: &mut [Call], routine: usize) -> bool {
-    let body = &mut bodies[routine];
-    let changed = std::mem::take(&mut body.changed);
-    if changed == 0 {
+/// Takes what is new in the rows of these routines, by what each CALL has taken.
+fn take_news(
+    section: &[u8],
+    bodies: &mut [Body],
+    calls: &[Call],
+    taken: &mut [Row],
+    routine: usize,
+    callees: u64,
+) -> bool {
+    if callees == 0 {
         return false;
     }
-    let calls = &mut calls[body.first_call as usize..body.after_calls as usize];
+    let body = &bodies[routine];
     let mut grown = false;
-    for call in calls {
-        if changed >> call.routine & 1 == 1 {
+    for at in body.first_call as usize..body.after_calls as usize {
+        let call = &calls[at];
+        if callees >> call.routine & 1 == 1 {
             let Body {
                 parameters, row, ..
             } = bodies[call.routine as usize];
             let names = &section[call.names as usize..][..parameters as usize];
-            let new = row.without(std::mem::replace(&mut call.taken, row));
+            let new = row.without(std::mem::replace(&mut taken[at], row));
             grown |= take_row(&mut bodies[routine], call, names, new);
         }
     }
@@ -397,6 +640,9 @@ fn take_pairs(body: &mut Body, label: usize, renamed: &[u8; ROW_SIDE], pairs: u6
 
 /// The row and the rings that follow from the recorded pairs of a body.
 fn close(body: &Body) -> (Row, u16) {
+    if body.used == 0 {
+        return (Row::default(), 0);
+    }
     match (body.names as usize).div_ceil(LANES) {
         1 => close_words::<1>(body),
         2 => close_words::<2>(body),

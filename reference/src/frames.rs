@@ -182,6 +182,7 @@ pub fn listings(frames: &[Frame]) -> Vec<u8> {
 #[cfg(test)]
 mod tests {
     use super::*;
+    use crate::cases::Said;
     use crate::generate::KINDS;
     use crate::limits::{READ_LIMIT, RING_BYTE};
     use crate::model::reached;
@@ -227,7 +228,10 @@ mod tests {
         for frame in all() {
             let [now, before] = [Rules::InForce, Rules::Before101].map(|rules| {
                 let mut buffer = vec![0; frame.buffer];
-                (analyse_by(rules, &frame.table, &mut buffer), buffer)
+                (
+                    Said::from(analyse_by(rules, &frame.table, &mut buffer)),
+                    buffer,
+                )
             });
             changed += usize::from(now != before);
         }
@@ -240,10 +244,13 @@ mod tests {
         for frame in all() {
             let [now, before] = [Rules::InForce, Rules::Before105].map(|rules| {
                 let mut buffer = vec![0; frame.buffer];
-                (analyse_by(rules, &frame.table, &mut buffer), buffer)
+                (
+                    Said::from(analyse_by(rules, &frame.table, &mut buffer)),
+                    buffer,
+                )
             });
             changed += usize::from(now != before);
-            let is_clear = |answer| matches!(answer, Answer::Accepted { verdict, .. } if verdict == Verdict::Clear);
+            let is_clear = |answer| matches!(answer, Said::Accepted { verdict, .. } if verdict == Verdict::Clear);
             assert!(is_clear(now.0) || !is_clear(before.0));
             clear_now += usize::from(is_clear(now.0) && !is_clear(before.0));
         }
@@ -261,7 +268,10 @@ mod tests {
             mirrors += usize::from(table.mirrors() > 0);
             let [with, without] = [Rules::InForce, Rules::MirrorsApart].map(|rules| {
                 let mut buffer = vec![0; frame.buffer];
-                (analyse_by(rules, &frame.table, &mut buffer), buffer)
+                (
+                    Said::from(analyse_by(rules, &frame.table, &mut buffer)),
+                    buffer,
+                )
             });
             changed += usize::from(with != without);
         }

@@ -2,9 +2,10 @@
 
 use crate::cases::worked;
 use crate::generate::{assemble, of_kind, valid_body, Kind, Rng};
-use crate::hex;
 use crate::limits::code::*;
 use crate::limits::{MAX_LOCALS, MAX_PARAMETERS, MAX_ROUTINES, MAX_SECTION};
+use crate::round_tables::{stored, Stored};
+use crate::rounds;
 use crate::table::read;
 use crate::update::reaching;
 use crate::updates::Draft;
@@ -126,10 +127,17 @@ pub fn groups() -> Vec<Group> {
             vec![chain_falling()],
         ),
         group(
-            "many rounds",
-            "two routines whose rows settle after 46 rounds",
-            vec![many_rounds()],
+            "chain: dearest",
+            "the chain of 64 routines that needs 65 rounds",
+            vec![dearest_chain()],
         ),
+    ]);
+    groups.extend(stored().into_iter().map(
+        |Stored {
+             name, what, table, ..
+         }| group(name, what, vec![table]),
+    ));
+    groups.extend([
         group(
             "refused: damaged",
             "random valid tables with bytes changed, cut, put in or added",
@@ -487,8 +495,8 @@ fn falling(routine: usize) -> Option<usize> {
     }
 }
 
-fn many_rounds() -> Vec<u8> {
-    hex::parse(include_str!("../tables/many-rounds-2.hex")).expect("the table is hexadecimal")
+fn dearest_chain() -> Vec<u8> {
+    rounds::chain(MAX_ROUTINES).expect("a chain of so many")
 }
 
 /// The table with a bad code in place of its last END.

@@ -1,5 +1,5 @@
 //! A second analyser and runner of handler tables, written from document 01 and requests
-//! #101, #102 and #104 to #108 of document 02, the customer's papers, apart from what is
+//! #101, #102 and #104 to #109 of document 02, the customer's papers, apart from what is
 //! under test; docs/FORMAT.md is our page on the same format.
 //!
 //! It is kept plain, to be compared against, not to be fast:
@@ -12,9 +12,10 @@
 //! to try, and `update_marks` tells what those have in them. `canonical` writes the canonical
 //! table, `writing_cases`, `writing_tables` and `writings` give inputs to try, `shuffles` gives
 //! tables that must come to the same bytes, and `writing_marks` tells what the inputs have in
-//! them. `fast`, `fast_canonical`, `fast_read`, `groups` and `timing` are there for the benchmark
-//! alone, `command` has what the binaries share that compare, and `archive` calls what is under
-//! test.
+//! them. `rounds` works out the rows in rounds and counts them, and has the dearest chain;
+//! `round_tables` gives tables that need many. `fast`, `fast_canonical`, `fast_read`, `groups` and
+//! `timing` are there for the benchmark alone, `command` has what the binaries share, and `archive`
+//! calls what is under test.
 
 #[cfg(feature = "archive")]
 pub mod archive;
@@ -32,6 +33,8 @@ pub mod hex;
 pub mod limits;
 mod listing;
 pub mod model;
+pub mod round_tables;
+pub mod rounds;
 pub mod runner;
 pub mod schedules;
 pub mod shuffles;
@@ -47,7 +50,7 @@ pub mod writing_marks;
 pub mod writing_tables;
 pub mod writings;
 
-use limits::{refusal, CHECK_ROUTINE, RING_BASE, RING_NAME, RING_ROUTINE, ROW_BYTES};
+use limits::{refusal, CHECK_ROUTINE, RING_BASE, RING_NAME, RING_ROUTINE, ROUNDS_BASE, ROW_BYTES};
 pub use listing::{listing, listing_by, listing_with};
 pub use model::Rules;
 
@@ -55,7 +58,12 @@ pub use model::Rules;
 #[derive(Clone, Copy, Debug, PartialEq, Eq)]
 pub enum Answer {
     /// What it says of a table that is not refused.
-    Accepted { verdict: Verdict, share: Share },
+    Accepted {
+        verdict: Verdict,
+        share: Share,
+        /// How many rounds it takes, the last one counted, which changes nothing.
+        rounds: u32,
+    },
     /// The number of the refusal.
     Refused(u32),
 }
@@ -87,7 +95,7 @@ pub fn check(table: &[u8]) -> Result<(usize, usize), u32> {
     Ok((table.routines.len(), table.items()))
 }
 
-/// Writes the model into the head of `buffer` and gives the verdict and the share.
+/// Writes the model into the head of `buffer` and gives the verdict, the share and the rounds.
 /// A refusal (1 to 15) leaves the whole buffer as it was.
 pub fn analyse(table: &[u8], buffer: &mut [u8]) -> Answer {
     analyse_by(Rules::InForce, table, buffer)
@@ -104,13 +112,14 @@ pub fn analyse_by(rules: Rules, table: &[u8], buffer: &mut [u8]) -> Answer {
     if buffer.len() < ROW_BYTES * rows {
         return Answer::Refused(refusal::SHORT_BUFFER);
     }
-    let outcomes = model::least_model(rules, &table);
+    let (outcomes, rounds) = rounds::in_rounds(rules, &table);
     for (outcome, bytes) in outcomes.iter().zip(buffer.chunks_mut(ROW_BYTES)) {
         bytes.copy_from_slice(&model::row_bytes(outcome));
     }
     Answer::Accepted {
         verdict: model::verdict(&table, &outcomes),
         share: model::share(&table, &outcomes),
+        rounds,
     }
 }
 
@@ -122,10 +131,18 @@ pub fn check_number(table: &[u8]) -> u32 {
     }
 }
 
-/// The verdict or the refusal of `analyse` as one number. The share is not in it.
+/// The verdict or the refusal of `analyse` as one number. Share and rounds are not in it.
 pub fn analyse_number(table: &[u8], buffer: &mut [u8]) -> u32 {
     match analyse(table, buffer) {
         Answer::Accepted { verdict, .. } => verdict_number(verdict),
+        Answer::Refused(number) => number,
+    }
+}
+
+/// The rounds or the refusal of `analyse` as one number.
+pub fn rounds_number(table: &[u8], buffer: &mut [u8]) -> u32 {
+    match analyse(table, buffer) {
+        Answer::Accepted { rounds, .. } => ROUNDS_BASE + rounds,
         Answer::Refused(number) => number,
     }
 }

@@ -1,4 +1,4 @@
-//! Every number that docs/FORMAT.md and requests #106 to #108 fix, in one place.
+//! Every number that docs/FORMAT.md and requests #106 to #109 fix, in one place.
 
 /// Most routines in a table.
 pub const MAX_ROUTINES: usize = 64;
@@ -45,6 +45,28 @@ pub const RING_ROUTINE: u32 = 1_024;
 pub const RING_NAME: u32 = 32;
 /// `canonical_number` of a table that is written: this + the length of the result.
 pub const CANONICAL_BASE: u32 = 65_536;
+/// `rounds_number` of an accepted table: this + the number of rounds.
+pub const ROUNDS_BASE: u32 = 65_536;
+
+/// Cells of a row that can hold a label: the first end is 0 to 7, the second 1 to 7 and never 0, and
+/// the two differ.
+pub const ROW_CELLS: u32 = 49;
+/// Labels that a cell can hold: own, unknown and several.
+pub const CELL_LABELS: u32 = 3;
+/// How often one routine's bytes can change from round to round: each label of each cell can come
+/// once, and the last byte can become 1 once. Nothing goes away again.
+pub const ROW_CHANGES: u32 = CELL_LABELS * ROW_CELLS + 1;
+
+/// Most rounds that a table of so many routines needs: all changes in rounds of their own, and the
+/// last round, which changes nothing.
+pub const fn most_rounds(routines: usize) -> u32 {
+    ROW_CHANGES * routines as u32 + 1
+}
+
+/// The same where no calls lead from a routine back to it.
+pub const fn most_rounds_without_cycle(routines: usize) -> u32 {
+    routines as u32 + 1
+}
 
 /// Most threads that a run starts.
 pub const MAX_THREADS: usize = 16;

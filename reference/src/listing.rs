@@ -19,7 +19,7 @@ pub fn listing_by(rules: Rules, table: &[u8], size: usize) -> Vec<u8> {
     let (verdict, share) = match analyse_by(rules, table, &mut model) {
         // A refused table prints this line alone.
         Answer::Refused(number) => return format!("refused {number}\n").into_bytes(),
-        Answer::Accepted { verdict, share } => (verdict, share),
+        Answer::Accepted { verdict, share, .. } => (verdict, share),
     };
     let routines = check(table).map_or(0, |(routines, _)| routines);
     let mut text = format!("routines {routines}\n");

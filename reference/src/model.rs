@@ -288,6 +288,15 @@ fn rings(pairs: &Pairs) -> BTreeSet<u8> {
         .collect()
 }
 
+/// What one body gives where its calls have these rows.
+pub fn worked_out(rules: Rules, routine: &Routine, rows: &[Pairs]) -> Outcome {
+    let pairs = close(recorded(rules, routine, rows));
+    Outcome {
+        row: row(routine.parameters, &pairs),
+        rings: rings(&pairs),
+    }
+}
+
 /// The least rows that satisfy the rules, for all routines. They begin empty.
 pub fn least_model(rules: Rules, table: &Table) -> Vec<Outcome> {
     let all = (0..table.routines.len()).collect();

@@ -1,6 +1,6 @@
 //! The worked tables a to j, refusals and rules of docs/FORMAT.md, one test for each.
 
-use reference::cases::{limits, rules, worked};
+use reference::cases::{limits, rules, worked, Said};
 use reference::generate::{assemble, random};
 use reference::hex;
 use reference::limits::code::*;
@@ -53,7 +53,12 @@ fn rule(name: &str) -> Vec<u8> {
 fn worked_cases_get_their_verdicts_and_shares() {
     assert_eq!(worked().len(), 11);
     for case in worked() {
-        assert_eq!(model(&case.table).0, case.answer, "{}", case.name);
+        assert_eq!(
+            Said::from(model(&case.table).0),
+            case.answer,
+            "{}",
+            case.name
+        );
     }
 }
 
@@ -89,8 +94,8 @@ fn case_j_is_clear_and_was_a_ring_before_request_101() {
     let table = case("j-main-thread-locks-first-again");
     assert_eq!(row(&table, 0), (vec![], 0));
     assert_eq!(
-        analyse_by(Rules::Before101, &table, &mut [0; ROW_BYTES]),
-        Answer::Accepted {
+        Said::from(analyse_by(Rules::Before101, &table, &mut [0; ROW_BYTES])),
+        Said::Accepted {
             verdict: Verdict::Ring {
                 routine: 0,
                 name: 1
@@ -111,7 +116,7 @@ fn cases_at_limits_get_their_answers() {
     for case in limits() {
         let mut buffer = vec![FILLER; case.buffer];
         assert_eq!(
-            analyse(&case.table, &mut buffer),
+            Said::from(analyse(&case.table, &mut buffer)),
             case.answer,
             "{}",
             case.name
@@ -266,7 +271,12 @@ fn numbers() {
 #[test]
 fn rule_tables_get_their_verdicts_and_shares() {
     for case in rules() {
-        assert_eq!(model(&case.table).0, case.answer, "{}", case.name);
+        assert_eq!(
+            Said::from(model(&case.table).0),
+            case.answer,
+            "{}",
+            case.name
+        );
     }
 }
 

@@ -1,12 +1,20 @@
-//! The example tables give the pairs, the verdicts and the shares their comments name.
+//! The example tables give the pairs, the verdicts, the shares and the rounds their comments name.
 
 use std::fs;
 use std::path::Path;
 
 use reference::cases::worked;
-use reference::{hex, listing};
+use reference::limits::{MAX_ROUTINES, ROUNDS_BASE, ROW_BYTES};
+use reference::{hex, listing, rounds_number};
 
-/// The listing as the comment lines have it: the pairs, the verdict and the share.
+/// The number of rounds of a table that is accepted.
+fn rounds(table: &[u8]) -> Option<u32> {
+    let mut model = [0; ROW_BYTES * MAX_ROUTINES];
+    rounds_number(table, &mut model).checked_sub(ROUNDS_BASE)
+}
+
+/// The listing as the comment lines have it: the pairs, the verdict and the share; and then the
+/// number of rounds.
 fn comments(table: &[u8]) -> Vec<String> {
     let text = String::from_utf8(listing(table)).expect("ASCII");
     let pairs = text.lines().filter(|line| line.starts_with("pair "));
@@ -16,13 +24,14 @@ fn comments(table: &[u8]) -> Vec<String> {
         .map(|pair| format!("# {pair}"))
         .chain([format!("# verdict: {verdict}")])
         .chain(share.map(|share| format!("# share: {share}")))
+        .chain(rounds(table).map(|rounds| format!("# rounds: {rounds}")))
         .collect()
 }
 
-/// The comment lines from the first that names a pair, a verdict or a share to the last one.
+/// The comment lines from the first that names a pair, a verdict, a share or rounds to the last one.
 fn named(text: &str) -> Vec<&str> {
     let lines: Vec<&str> = text.lines().collect();
-    let begins = ["# pair ", "# verdict:", "# share:"];
+    let begins = ["# pair ", "# verdict:", "# share:", "# rounds:"];
     let names = |line: &&str| begins.iter().any(|begin| line.starts_with(begin));
     match (lines.iter().position(names), lines.iter().rposition(names)) {
         (Some(first), Some(last)) => lines[first..=last].to_vec(),

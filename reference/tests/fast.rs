@@ -1,37 +1,66 @@
-//! The analyser made for the benchmark gives what the reference gives: the answer and every byte of the
-//! buffer, for buffers of every length that matters.
+//! The analyser made for the benchmark gives what the reference gives: the verdict, the rounds and every
+//! byte of the buffer, for buffers of every length that matters.
 
 use reference::cases::{rules, worked};
 use reference::generate::{boundaries, of_kind, random, Kind, Rng};
 use reference::groups::groups;
-use reference::limits::ROW_BYTES;
-use reference::{analyse_number, check, fast};
+use reference::limits::{MAX_ROUTINES, ROUNDS_BASE, ROW_BYTES};
+use reference::round_tables::{self, stored};
+use reference::rounds::chain;
+use reference::{analyse_number, check, fast, rounds_number};
 
 /// Bytes that tell their places apart, never 0.
 fn filler(count: usize) -> Vec<u8> {
     (0..count).map(|place| (place % 251) as u8 + 1).collect()
 }
 
-/// The fast analyser gives this answer and leaves these bytes in a buffer of as many bytes.
-fn gives(what: &str, table: &[u8], answer: u32, bytes: &[u8]) {
-    let mut buffer = filler(bytes.len());
-    let given = fast::analyse_number(table, &mut buffer);
-    assert_eq!(given, answer, "{what}: {table:?}");
-    assert_eq!(buffer, bytes, "{what}: {table:?}");
+/// The numbers that are due for a table and a buffer: the verdict's and that of the rounds.
+#[derive(Clone, Copy)]
+struct Due {
+    verdict: u32,
+    rounds: u32,
+}
+
+/// What the reference gives; it leaves its bytes in the buffer.
+fn due(table: &[u8], buffer: &mut [u8]) -> Due {
+    let mut other = buffer.to_vec();
+    let due = Due {
+        verdict: analyse_number(table, buffer),
+        rounds: rounds_number(table, &mut other),
+    };
+    assert_eq!(other, buffer, "{table:?}");
+    due
+}
+
+/// The fast analyser gives these numbers and leaves these bytes in a buffer of as many bytes, in rounds
+/// and in sweeps.
+fn gives(what: &str, table: &[u8], due: Due, bytes: &[u8]) {
+    type Call = fn(&[u8], &mut [u8]) -> u32;
+    for (call, number) in [
+        (fast::analyse_number as Call, due.verdict),
+        (fast::rounds_number, due.rounds),
+        (fast::sweep_number, due.verdict),
+    ] {
+        let mut buffer = filler(bytes.len());
+        let given = call(table, &mut buffer);
+        assert_eq!(given, number, "{what}: {table:?}");
+        assert_eq!(buffer, bytes, "{what}: {table:?}");
+    }
 }
 
 /// Holds both analysers against each other on one table.
-fn hold(what: &str, table: &[u8]) {
+fn hold(what: &str, table: &[u8]) -> Due {
     let exact = ROW_BYTES * check(table).map_or(1, |(routines, _)| routines);
     let mut bytes = filler(exact + ROW_BYTES + 7);
-    let answer = analyse_number(table, &mut bytes);
-    gives(what, table, answer, &bytes);
-    gives(what, table, answer, &bytes[..exact]);
+    let numbers = due(table, &mut bytes);
+    gives(what, table, numbers, &bytes);
+    gives(what, table, numbers, &bytes[..exact]);
     for short in [0, exact - 1] {
         let mut bytes = filler(short);
-        let answer = analyse_number(table, &mut bytes);
-        gives(what, table, answer, &bytes);
+        let numbers = due(table, &mut bytes);
+        gives(what, table, numbers, &bytes);
     }
+    numbers
 }
 
 #[test]
@@ -123,4 +152,45 @@ fn tables_of_the_benchmark() {
             hold(group.name, table);
         }
     }
+}
+
+#[test]
+fn chains() {
+    for n in 1..=MAX_ROUTINES {
+        let due = hold("a chain", &chain(n).expect("a chain of so many"));
+        assert_eq!(due.rounds, ROUNDS_BASE + n as u32 + 1);
+    }
+}
+
+#[test]
+fn stored_tables() {
+    for stored in stored() {
+        let due = hold("a stored table", &stored.table);
+        assert_eq!(due.rounds, ROUNDS_BASE + stored.rounds);
+    }
+}
+
+#[test]
+fn random_tables_that_need_many_rounds() {
+    let mut many = 0;
+    for index in 0..400 {
+        let (kind, table) = round_tables::table(8, index);
+        let due = hold(&format!("table {index}, {kind:?}"), &table);
+        many += u32::from(due.rounds > ROUNDS_BASE + 20);
+    }
+    assert!(many >= 40, "{many}");
+}
+
+/// In rounds and in sweeps a row is worked out once at least where it has a pair, and a refused table
+/// has none.
+#[test]
+fn rows_worked_out_are_counted() {
+    let dearest = chain(MAX_ROUTINES).expect("a chain of so many");
+    // In rounds, each row but that of routine 0 once; that one twice, to tell since when it has its ring.
+    // Sweeps work out each row once.
+    assert_eq!(
+        fast::rows_worked_out(&dearest),
+        [MAX_ROUTINES + 1, MAX_ROUTINES]
+    );
+    assert_eq!(fast::rows_worked_out(&[]), [0, 0]);
 }

@@ -5,12 +5,12 @@ mod common;
 
 use std::collections::BTreeMap;
 
-use reference::cases::{held_mirror_rules, rules, worked, Case};
+use reference::cases::{held_mirror_rules, rules, worked, Case, Said};
 use reference::generate::Kind;
 use reference::limits::{RING_BYTE, ROW_BYTES};
 use reference::model::{least_model, locks_passed_over, share, verdict, Outcome};
 use reference::table::Table;
-use reference::{analyse_by, listing_by, Answer, Rules, Share, Verdict};
+use reference::{analyse_by, listing_by, Rules, Share, Verdict};
 
 // The tables for the rule, now and before.
 
@@ -390,9 +390,9 @@ fn case(name: &str) -> Case {
 }
 
 /// The answer and the model of a table that is accepted.
-fn outcome(rules: Rules, table: &[u8]) -> (Answer, Vec<u8>) {
+fn outcome(rules: Rules, table: &[u8]) -> (Said, Vec<u8>) {
     let mut model = vec![0; ROW_BYTES * table[0] as usize];
-    (analyse_by(rules, table, &mut model), model)
+    (Said::from(analyse_by(rules, table, &mut model)), model)
 }
 
 fn listed(rules: Rules, table: &[u8]) -> String {

@@ -2,7 +2,7 @@
 
 use std::collections::BTreeSet;
 
-use reference::cases::{limits, rules, share_rules, worked};
+use reference::cases::{limits, rules, share_rules, worked, Said};
 use reference::generate::random;
 use reference::limits::{code, RING_BYTE, ROW_BYTES, ROW_SIDE};
 use reference::model::{least_model, row_bytes, Outcome};
@@ -175,7 +175,7 @@ fn tables_for_the_share_list_as_worked_out() {
 #[test]
 fn refused_tables_print_no_share() {
     for case in limits() {
-        if let Answer::Refused(number) = case.answer {
+        if let Said::Refused(number) = case.answer {
             let text = format!("refused {number}\n").into_bytes();
             assert_eq!(
                 listing_with(&case.table, case.buffer),
@@ -224,7 +224,7 @@ fn a_share_is_the_quotient_and_what_is_left_over() {
         };
         accepted += 1;
         let mut model = vec![0; ROW_BYTES * table.routines.len()];
-        let Answer::Accepted { verdict, share } = analyse(&bytes, &mut model) else {
+        let Answer::Accepted { verdict, share, .. } = analyse(&bytes, &mut model) else {
             panic!("refused after all: {bytes:?}");
         };
         let (c, m) = counted(&table, &model);
@@ -355,7 +355,7 @@ fn case(name: &str) -> (Given, Numbers) {
         .chain(rules())
         .find(|case| case.name == name)
         .unwrap_or_else(|| panic!("no table: {name}"));
-    let Answer::Accepted { share, .. } = case.answer else {
+    let Said::Accepted { share, .. } = case.answer else {
         panic!("refused: {name}");
     };
     let Share {

@@ -35,20 +35,21 @@ module _ (table before : List ℕ) where
     }
 
     pub judged-as : row-bytes * length P ≤ length before → (after : List ℕ) (verdict : Verdict)
-        (share : Share) → JudgedAs P before after verdict share → Analysed table before after (Judged verdict share)
-    judged-as s after verdict share j = record {
+        (share : Share) (m : ℕ) → JudgedAs P before after verdict share m
+        → Analysed table before after (Judged verdict share m)
+    judged-as s after verdict share m j = record {
       refused-table = λ y g. absurd (let z : _≡_ {A = ℕ} 0 1 = cc in omega arith);
       refused-buffer = λ Q g l. absurd (let e : length P ≡ length Q = ap length (same Q g) in omega arith);
-      judged = λ Q g l. (verdict, share, refl, rw (same Q g) at j);
+      judged = λ Q g l. (verdict, share, m, refl, rw (same Q g) at j);
     }
 
 -- the numbers of a ring, where the verdict is known
 pub short-ring : (v : Verdict) (ring : RingPlace) → Short v → v ≡ Ring ring → (ring .routine < 64) × (ring .name < 16)
 short-ring v ring s e = rw e at s
 
--- the verdict of an answer, where it is known
-pub short-verdict : (a : Answer) (v : Verdict) (s : Share) → Fits a → a ≡ Judged v s → Short v
-short-verdict a v s f e = rw e at f
+-- the verdict and the rounds of an answer, where they are known
+pub short-judged : (a : Answer) (v : Verdict) (s : Share) (m : ℕ) → Fits a → a ≡ Judged v s m → Short v × (m ≤ 9473)
+short-judged a v s m f e = rw e at f
 
 pub small-refusal : (a : Answer) (y : ℕ) → Fits a → a ≡ Refused y → y ≤ 15
 small-refusal a y f e = let g : Fits (Refused y) = rw e at f in g .1

@@ -1,11 +1,11 @@
--- The verdict and the share that are read off the rows are those that the rules give, and a clear verdict promises safe
--- runs.
-use mathlib.Core.Path.{_≡_, sym}
+-- The verdict and the share that are read off the rows are those that the rules give, with the number of rounds that it
+-- took; and a clear verdict promises safe runs.
+use mathlib.Core.Path.{_≡_, refl, sym}
 use mathlib.Core.List.{List}
 use Prim.Native.Nat.{ℕ, _*_, _^_, _≤_, _<_}
 use native.Mathlib.Nat.{div-add-mod', mod-lt}
 use native.Mathlib.Omega.{arith}
-use lib.ListN.{length}
+use lib.ListN.{length, replicate, getD-replicate}
 use lib.Bits.{bitOr, bitXor, or-lt, xor-lt}
 use lib.Count.{ones}
 use Rattle.table.specs.Program.{Program}
@@ -27,9 +27,11 @@ use Rattle.settle.specs.Reach.{Reachable, CanReach}
 use Rattle.settle.specs.Due.{Callers}
 use Rattle.analysis.specs.laws.Judging.{RingRows, Tells, Divided}
 use Rattle.settle.specs.Settle.{AllFresh}
-use Rattle.settle.specs.Bodies.{Known, Settled}
+use Rattle.settle.specs.Bodies.{Known}
+use Rattle.byrounds.specs.Round.{CanBegin, RoundsDone}
+use Rattle.rounds.specs.Rounds.{Rounds}
+use Rattle.rounds.specs.laws.Bound.{rounds-le}
 use Rattle.analysis.specs.laws.Judges.{Finished, Pronounces}
-use Rattle.settle.specs.Bodies.{CanSettle}
 use Rattle.analysis.specs.laws.Judges.{CanJudgeKnown, JudgesKnown}
 use Rattle.analysis.proofs.ModelLaws.{are-models, ring-told, no-ring, ring-at}
 use Rattle.settle.specs.laws.Starts.{reached-bits}
@@ -149,26 +151,39 @@ few-calls ks s starts calls model p =
     omega arith
 
 module _ (ks s starts calls callers : List ℕ) (turned : Callers calls callers) where
-  pub can-settle : (model : List ℕ) → CanJudgeKnown ks s starts calls model → CanSettle ks s starts callers model
-  can-settle model p =
-      record { program = p .program; linked = linked ks s starts calls callers turned (p .program) (p .known); long = p .long }
+  pub can-begin : (model : List ℕ) → CanJudgeKnown ks s starts calls model
+      → CanBegin ks s starts callers model (replicate 64 16)
+  can-begin model p = record {
+    program = p .program;
+    linked = linked ks s starts calls callers turned (p .program) (p .known);
+    long = p .long;
+    names-long = refl;
+    no-name = λ q h. getD-replicate 64 q 16 0 h;
+  }
 
   -- what the judgement leaves
-  module _ (before after names : List ℕ) (settled : Settled ks s starts callers before after names) where
-    pub judged-known : (verdict : Verdict) (share : Share) → Pronounces calls after names verdict share
-        → JudgesKnown ks s starts calls before after verdict share
-    judged-known verdict share pr P known l =
-        let part = settled P (linked ks s starts calls callers turned P known) l in
-        let says = pr P ks s starts before known part in (
+  module _ (before after names : List ℕ) (m : ℕ) (done : RoundsDone ks s starts callers before after names m) where
+    pub judged-known : (verdict : Verdict) (share : Share) (n : ℕ)
+        → Pronounces calls after names verdict share × (n ≡ m)
+        → JudgesKnown ks s starts calls before after verdict share n
+    judged-known verdict share n pr P known l =
+        let settled = done P (linked ks s starts calls callers turned P known) l in
+        let part = settled .0 in
+        let rounds : Rounds P n = rw (pr .1) (settled .1) in
+        let most = rounds-le P (known .holds .limits) n rounds in
+        let few = known .holds .limits .few-routines in
+        let says = pr .0 P ks s starts before known part in (
           record {
             model = are-models P before after names part;
             same-length = part .long;
             rest = part .rest;
             says = says .0;
             shares = says .1;
+            rounds = rounds;
             safe = λ e. clear-is-safe P (well-formed P (known .holds .limits)) (rw e at (says .0));
           },
           says .2,
+          omega arith,
         )
 
     pub finished-from : CanJudgeKnown ks s starts calls before → length after ≡ length before
@@ -183,5 +198,5 @@ module _ (ks s starts calls callers : List ℕ) (turned : Callers calls callers)
           known = p .known;
           long = omega arith;
           before = before;
-          fresh = settled (p .program) (linked ks s starts calls callers turned (p .program) (p .known)) l;
+          fresh = done (p .program) (linked ks s starts calls callers turned (p .program) (p .known)) l .0;
         }

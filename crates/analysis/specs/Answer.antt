@@ -12,6 +12,7 @@ use Rattle.rules.specs.Model.{Row, Ring}
 use Rattle.rules.specs.Verdict.{Clear, RingAt}
 use Rattle.rules.specs.Share.{ShareOf}
 use Rattle.rows.specs.Bytes.{cellByte, lastByte}
+use Rattle.rounds.specs.Rounds.{most-changes, Rounds}
 use Rattle.run.specs.Run.{start, run, Turn, Safe}
 use Rattle.analysis.specs.declared.Verdict.{Verdict}
 use Rattle.analysis.specs.declared.Verdict.the-variants.{Clear as SaysClear, Ring as SaysRing}
@@ -61,13 +62,14 @@ Shares P share = ShareOf P (share .percent) (share .remainder) (share .reached)
 abbrev pub SafeRuns : Program → Type 0
 SafeRuns P = (turns : List Turn) → Safe (run P (start P) turns)
 
--- what is left where the table holds P and its model fits the buffer
-pub record JudgedAs (P : Program) (before after : List ℕ) (verdict : Verdict) (share : Share) : Type 0 where
+-- what is left where the table holds P and its model fits the buffer; m is the number of rounds
+pub record JudgedAs (P : Program) (before after : List ℕ) (verdict : Verdict) (share : Share) (m : ℕ) : Type 0 where
   pub model : Models P after
   pub same-length : length after ≡ length before
   pub rest : (i : ℕ) → row-bytes * length P ≤ i → getD after i 0 ≡ getD before i 0
   pub says : Says P verdict
   pub shares : Shares P share
+  pub rounds : Rounds P m
   pub safe : verdict ≡ SaysClear → SafeRuns P
 
 -- a refusal: its number alone, and the buffer as it was
@@ -80,16 +82,21 @@ pub record Analysed (table before after : List ℕ) (answer : Answer) : Type 0 w
   pub refused-buffer : (P : Program) → checkTable table ≡ accepted P → length before < row-bytes * length P
       → RefusedBy short-buffer before after answer
   pub judged : (P : Program) → checkTable table ≡ accepted P → row-bytes * length P ≤ length before
-      → (verdict : Verdict) × (share : Share) × (answer ≡ Judged verdict share) × JudgedAs P before after verdict share
+      → (verdict : Verdict) × (share : Share) × (m : ℕ) × (answer ≡ Judged verdict share m)
+      × JudgedAs P before after verdict share m
 
 -- a ring's numbers are those of a routine and a name of a table
 abbrev pub Short : Verdict → Type 0
 Short SaysClear = Unit {0}
 Short (SaysRing ring) = (ring .routine < most-routines) × (ring .name < most-names)
 
--- the same of an answer; a refusal is one of those from 1 to the last
+-- the most rounds that a table needs: each row changes so often at most, and the last round changes nothing
+abbrev pub most-rounds : ℕ
+most-rounds = most-changes * most-routines + 1
+
+-- the numbers of an answer are those of a table; a refusal is one of those from 1 to the last
 abbrev pub Fits : Answer → Type 0
-Fits (Judged verdict share) = Short verdict
+Fits (Judged verdict share m) = Short verdict × (m ≤ most-rounds)
 Fits (Refused e) = (1 ≤ e) × (e ≤ short-buffer)
 
 -- the launcher's number of a verdict
@@ -97,11 +104,20 @@ abbrev pub verdictNumber : Verdict → ℕ
 verdictNumber SaysClear = 0
 verdictNumber (SaysRing ring) = 65536 + 1024 * ring .routine + 32 * ring .name
 
--- the launcher's number of an answer; the share is not in it
+-- the launcher's number of an answer; the share and the rounds are not in it
 abbrev pub numberOf : Answer → ℕ
-numberOf (Judged verdict share) = verdictNumber verdict
+numberOf (Judged verdict share m) = verdictNumber verdict
 numberOf (Refused e) = e
 
 -- the launcher's number for a table is that of its answer
 abbrev pub AnalysedAs : List ℕ → List ℕ → List ℕ → ℕ → Type 0
 AnalysedAs table before after n = (answer : Answer) × (n ≡ numberOf answer) × Analysed table before after answer
+
+-- the launcher's number of rounds: 65,536 + their number, or the refusal's number
+abbrev pub roundsNumber : Answer → ℕ
+roundsNumber (Judged verdict share m) = 65536 + m
+roundsNumber (Refused e) = e
+
+-- the launcher's number of rounds for a table is that of its answer
+abbrev pub RoundsAs : List ℕ → List ℕ → List ℕ → ℕ → Type 0
+RoundsAs table before after n = (answer : Answer) × (n ≡ roundsNumber answer) × Analysed table before after answer

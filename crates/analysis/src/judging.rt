@@ -1,4 +1,4 @@
-// What is said of a program whose rows are those of its model: the verdict and the share.
+// What is said of a program whose rows are those of its model: the verdict, the share, and the number of rounds.
 ghost use mathlib.Core.Path.{_≡_};
 ghost use Prim.Native.Nat.{_*_, _≤_, _<_};
 ghost use lib.Count.{ones};
@@ -14,10 +14,11 @@ use table::limits::MOST_ROUTINES;
 use table::limits::ROW_BYTES;
 use table::limits::ROW_CELLS;
 
-// The verdict and the share of one table.
+// The verdict, the share and the number of rounds of one table.
 pub struct Judgement {
     pub verdict: Verdict,
     pub share: Share,
+    pub rounds: u64,
 }
 
 // The routines of the mask below n whose rows tell of a ring.
@@ -80,10 +81,16 @@ fn share_of(c: u64, m: u64) -> Share
     }
 }
 
-// What is said of a program whose rows are in the buffer, and whose ring names are `names`.
-pub fn judgement_of(calls: &[u64], model: &[u8], names: [u8; MOST_ROUTINES]) -> Judgement
+// What is said of a program whose rows are in the buffer after so many rounds, and whose ring names are `names`.
+pub fn judgement_of(
+    calls: &[u64],
+    model: &[u8],
+    names: [u8; MOST_ROUTINES],
+    rounds: u64,
+) -> Judgement
     requires { ⌜ Finished (now calls) (now model) names ⌝ }
-    ensures { λ j. ⌜ Pronounces (now (calls .entry)) (now (model .entry)) names (j .verdict) (j .share) ⌝ }
+    ensures { λ j. ⌜ Pronounces (now (calls .entry)) (now (model .entry)) names (j .verdict) (j .share)
+        × (j .rounds ≡ rounds) ⌝ }
 {
     let mask = reached(calls, 0);
     let rings = ring_rows(model, calls.len(), mask);
@@ -93,5 +100,6 @@ pub fn judgement_of(calls: &[u64], model: &[u8], names: [u8; MOST_ROUTINES]) -> 
     Judgement {
         verdict: verdict,
         share: share,
+        rounds: rounds,
     }
 }

@@ -1,17 +1,19 @@
-// The analysis: the least model of a table in a lent buffer, the verdict, and the share.
+// The analysis: the least model of a table in a lent buffer, the verdict, the share, and the number of rounds.
 ghost use mathlib.Core.Path.{_≡_};
 ghost use Prim.Native.Nat.{_<_};
 ghost use Rattle.table.specs.Check.{checkTable};
 ghost use Rattle.table.specs.Answer.{checkNumber, checkedOf};
-ghost use Rattle.analysis.specs.Answer.{Analysed, AnalysedAs, Fits, Short, verdictNumber};
+ghost use Rattle.analysis.specs.Answer.{Analysed, AnalysedAs, RoundsAs, Fits, Short};
+ghost use Rattle.analysis.specs.Answer.{verdictNumber};
 ghost use Rattle.analysis.specs.laws.Judges.{CanJudgeKnown, JudgesKnown, CanJudge, Judges};
 
 mod judging;
 
+use byrounds::in_rounds;
 use judging::Judgement;
 use judging::judgement_of;
+use settle::NO_RING;
 use settle::due::add_callers;
-use settle::settle;
 use settle::survey::survey_bodies;
 use table::Checked;
 use table::check;
@@ -40,9 +42,9 @@ pub struct Share {
     pub reached: u64,
 }
 
-// What the analysis answers: the verdict and the share, or the number of a refusal.
+// What the analysis answers: the verdict, the share and the number of rounds, or the number of a refusal.
 pub enum Answer {
-    Judged(Verdict, Share),
+    Judged(Verdict, Share, u64),
     Refused(u64),
 }
 
@@ -56,19 +58,20 @@ fn judge_surveyed(
 ) -> Judgement
     requires { ⌜ CanJudgeKnown (now ks) (now s) (now starts) (now calls) (now model) ⌝ }
     ensures { λ j. ⌜ JudgesKnown (now (ks .entry)) (now (s .entry)) (now (starts .entry)) (now (calls .entry))
-        (now (model .entry)) (now (model .exit)) (j .verdict) (j .share) ⌝ }
+        (now (model .entry)) (now (model .exit)) (j .verdict) (j .share) (j .rounds) ⌝ }
 {
     let mut callers = [0u64; MOST_ROUTINES];
     add_callers(calls, &mut callers);
-    let names = settle(ks, s, starts, &callers, model);
-    judgement_of(calls, model, names)
+    let mut names = [NO_RING; MOST_ROUTINES];
+    let rounds = in_rounds(ks, s, starts, &callers, model, &mut names);
+    judgement_of(calls, model, names, rounds)
 }
 
 // Leaves the model of the program that the sections hold, and judges it.
 fn judge(ks: &[u8], s: &[u8], model: &mut [u8]) -> Judgement
     requires { ⌜ CanJudge (now ks) (now s) (now model) ⌝ }
     ensures { λ j. ⌜ Judges (now (ks .entry)) (now (s .entry)) (now (model .entry)) (now (model .exit)) (j .verdict)
-        (j .share) ⌝ }
+        (j .share) (j .rounds) ⌝ }
 {
     let n = ks.len();
     let mut starts = [0usize; MOST_ROUTINES];
@@ -77,7 +80,8 @@ fn judge(ks: &[u8], s: &[u8], model: &mut [u8]) -> Judgement
     judge_surveyed(ks, s, &starts[0..n], &calls[0..n], model)
 }
 
-// Analyses a table: leaves its model in the buffer, and answers the verdict and the share; or answers the refusal.
+// Analyses a table: leaves its model in the buffer, and answers the verdict, the share and the number of rounds; or
+// answers the refusal.
 pub fn analyse(table: &[u8], model: &mut [u8]) -> Answer
     ensures analysed { λ r. ⌜ Analysed (now (table .entry)) (now (model .entry)) (now (model .exit)) r ⌝ }
     ensures fits { λ r. ⌜ Fits r ⌝ }
@@ -92,7 +96,7 @@ pub fn analyse(table: &[u8], model: &mut [u8]) -> Answer
             let j = judge(&table[1..n + 1], &table[n + 3..], model);
             let verdict = j.verdict;
             let share = j.share;
-            Answer::Judged(verdict, share)
+            Answer::Judged(verdict, share, j.rounds)
         }
     }
 }
@@ -114,7 +118,18 @@ pub extern "C" fn vangpear_analyse(table: &[u8], model: &mut [u8]) -> u32
     ensures { λ r. ⌜ AnalysedAs (now (table .entry)) (now (model .entry)) (now (model .exit)) r ⌝ }
 {
     match analyse(table, model) {
-        Answer::Judged(v, _) => verdict_number(v) as u32,
+        Answer::Judged(v, _, _) => verdict_number(v) as u32,
+        Answer::Refused(e) => e as u32,
+    }
+}
+
+// Analyses a table in the same way, for a caller in C: 65,536 + the number of rounds, or the refusal's number.
+#[no_mangle]
+pub extern "C" fn vangpear_rounds(table: &[u8], model: &mut [u8]) -> u32
+    ensures { λ r. ⌜ RoundsAs (now (table .entry)) (now (model .entry)) (now (model .exit)) r ⌝ }
+{
+    match analyse(table, model) {
+        Answer::Judged(_, _, rounds) => (65536 + rounds) as u32,
         Answer::Refused(e) => e as u32,
     }
 }

@@ -1,1 +1,3 @@
-pub mod Appending
+-- Appending to a text in a lent buffer.
+pub mod Appends
+pub mod laws

@@ -36,9 +36,9 @@ no-stuck (Unstarted x) n = refl
 no-stuck (Beyond x) n = refl
 
 -- a verdict that says clear
-says-clear : (P : Program) (v : Verdict) (s : Share) → clear? (Judged v s) ≡ true → Says P v → Clear P
-says-clear P verdict.Clear s e c = c
-says-clear P (verdict.Ring r) s e c = let z : _≡_ {A = ℕ} 0 1 = cc in absurd (omega arith)
+says-clear : (P : Program) (v : Verdict) (s : Share) (m : ℕ) → clear? (Judged v s m) ≡ true → Says P v → Clear P
+says-clear P verdict.Clear s m e c = c
+says-clear P (verdict.Ring r) s m e c = let z : _≡_ {A = ℕ} 0 1 = cc in absurd (omega arith)
 
 module _ (table before after bs : List ℕ) (n : ℕ) (a : Answer) (d : Desk) (p : Analysed table before after a)
     (q : RunsFresh (checkTable table) bs n d) (e : clear? a ≡ true) where
@@ -59,5 +59,5 @@ module _ (table before after bs : List ℕ) (n : ℕ) (a : Answer) (d : Desk) (p
           fits (yes l) = refusal _ (p .refused-buffer P h l .0)
           fits (no m) =
               let j = p .judged P h (omega (arith, m)) in
-              let c = says-clear P (j .0) (j .1) (sym (ap clear? (j .2)) ∙ e) (j .3 .says) in
+              let c = says-clear P (j .0) (j .1) (j .2) (sym (ap clear? (j .3)) ∙ e) (j .4 .says) in
               no-stuck (d .ran) (r .not-stuck c)

@@ -9,8 +9,8 @@ use Rattle.runner.specs.declared.Ran.the-variants as ran
 
 -- the analysis calls the table clear
 abbrev pub clear? : Answer → Bool
-clear? (Judged Clear x) = true
-clear? (Judged (Ring r) x) = false
+clear? (Judged Clear x m) = true
+clear? (Judged (Ring r) x m) = false
 clear? (Refused e) = false
 
 -- the run is stuck

@@ -3,7 +3,8 @@ ghost use mathlib.Core.Path.{_≡_};
 ghost use Prim.Native.Nat.{_≤_};
 ghost use Rattle.table.specs.Check.{checkTable};
 ghost use Rattle.table.specs.Answer.{checkNumber, checkedOf};
-ghost use Rattle.analysis.specs.Answer.{Analysed, AnalysedAs, Fits};
+ghost use Rattle.analysis.specs.Answer.{Analysed, AnalysedAs, RoundsAs, Fits};
+ghost use Rattle.dearest.specs.Written.{Written as ChainWritten};
 ghost use Rattle.listing.specs.Text.{Listed};
 ghost use Rattle.runner.specs.Answer.{Runs, Reports};
 ghost use Rattle.runner.specs.Desk.{RunsFresh};
@@ -18,6 +19,8 @@ use analysis::Verdict;
 use analysis::analyse;
 use analysis::vangpear_analyse;
 use analysis::vangpear_check;
+use analysis::vangpear_rounds;
+use dearest::write_chain;
 use listing::list;
 use runner::Desk;
 use runner::Ran;
@@ -71,6 +74,13 @@ pub fn analysed_for_c(table: &[u8], model: &mut [u8]) -> u32
     ensures { λ r. ⌜ AnalysedAs (now (table .entry)) (now (model .entry)) (now (model .exit)) r ⌝ }
 {
     vangpear_analyse(table, model)
+}
+
+// Calls `vangpear_rounds`.
+pub fn rounds_for_c(table: &[u8], model: &mut [u8]) -> u32
+    ensures { λ r. ⌜ RoundsAs (now (table .entry)) (now (model .entry)) (now (model .exit)) r ⌝ }
+{
+    vangpear_rounds(table, model)
 }
 
 // Calls `run_fresh`, which lends records to `run_schedule`.
@@ -128,13 +138,20 @@ pub fn written_for_c(table: &[u8], out: &mut [u8]) -> u32
     vangpear_canonical(table, out)
 }
 
+// Calls `write_chain`.
+pub fn chained(n: usize, out: &mut [u8]) -> usize
+    ensures { λ size. ⌜ ChainWritten n (now (out .entry)) (now (out .exit)) size ⌝ }
+{
+    write_chain(n, out)
+}
+
 // Whether an answer is that the table is clear.
 fn is_clear(a: Answer) -> bool
     ensures { λ r. ⌜ r ≡ clear? a ⌝ }
 {
     match a {
         Answer::Refused(_) => false,
-        Answer::Judged(v, _) => match v {
+        Answer::Judged(v, _, _) => match v {
             Verdict::Clear => true,
             Verdict::Ring(_) => false,
         },

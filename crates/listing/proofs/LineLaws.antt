@@ -9,7 +9,8 @@ use lib.Dec.{eqb}
 use lib.ListN.{length, length-append, getD}
 use borrow.Author.Tests.{eq-eqb, ne-eqb}
 use Rattle.table.specs.Constants.{row-bytes, row-names}
-use Rattle.append.specs.Appending.{Appends, equal-text}
+use Rattle.append.specs.Appends.{Appends}
+use Rattle.append.specs.laws.Appending.{equal-text}
 use Rattle.listing.specs.Text.{digits, decimal, numbers, line, pair-word, share-word, ring-word, cellLine}
 use Rattle.listing.proofs.DecimalLaws.{one-digit, two-digits, three-digits}
 

@@ -18,30 +18,30 @@ use Rattle.analysis.specs.declared.Verdict.{Verdict}
 use Rattle.analysis.specs.declared.Answer.{Answer}
 use Rattle.analysis.specs.declared.Answer.the-variants.{Judged, Refused}
 use Rattle.listing.specs.Text.{listing, Listed}
-use Rattle.append.specs.Appending.{Appends}
+use Rattle.append.specs.Appends.{Appends}
 use Rattle.listing.specs.laws.Texts.{sets-over}
 use Rattle.listing.specs.laws.Digits.{FewDigits}
 
 -- the answers are of two kinds
 abbrev kind : Answer → ℕ
-kind (Judged v s) = 0
+kind (Judged v s m) = 0
 kind (Refused e) = 1
 
 module _ (T before after : List ℕ) (answer : Answer) (h : Analysed T before after answer) where
   -- an answer that judges is no refusal
-  not-refused : (v : Verdict) (s : Share) (e : ℕ) → answer ≡ Judged v s → answer ≡ Refused e → ⊥
-  not-refused v s e j r = let z : _≡_ {A = ℕ} 0 1 = ap kind (sym j ∙ r) in omega arith
+  not-refused : (v : Verdict) (s : Share) (m e : ℕ) → answer ≡ Judged v s m → answer ≡ Refused e → ⊥
+  not-refused v s m e j r = let z : _≡_ {A = ℕ} 0 1 = ap kind (sym j ∙ r) in omega arith
 
-  pub judged-few : (v : Verdict) (s : Share) → Bytes T → answer ≡ Judged v s → getD T 0 0 ≤ 64
-  judged-few v s bytes j = by (checkTable T) refl where
+  pub judged-few : (v : Verdict) (s : Share) (m : ℕ) → Bytes T → answer ≡ Judged v s m → getD T 0 0 ≤ 64
+  judged-few v s m bytes j = by (checkTable T) refl where
     by : (o : Outcome) → checkTable T ≡ o → getD T 0 0 ≤ 64
-    by (refused e) c = absurd (not-refused v s e j (h .refused-table e c .0))
+    by (refused e) c = absurd (not-refused v s m e j (h .refused-table e c .0))
     by (accepted P) c =
         let n = ap (λ (t : List ℕ). getD t 0 0) (sound T P bytes c .0) in omega (arith, accepted-few T P bytes c .0)
 
   -- its share is that of the table's program, and so it is small
-  pub judged-small : (v : Verdict) (s : Share) → Bytes T → answer ≡ Judged v s → FewDigits s
-  judged-small v s bytes j = by (checkTable T) refl where
+  pub judged-small : (v : Verdict) (s : Share) (m : ℕ) → Bytes T → answer ≡ Judged v s m → FewDigits s
+  judged-small v s m bytes j = by (checkTable T) refl where
     small : (P : Program) → checkTable T ≡ accepted P → Shares P s → FewDigits s
     small P c sh =
         let few = accepted-few T P bytes c .0 in
@@ -55,15 +55,15 @@ module _ (T before after : List ℕ) (answer : Answer) (h : Analysed T before af
         }
 
     sized : (P : Program) → checkTable T ≡ accepted P → Dec (length before < row-bytes * length P) → FewDigits s
-    sized P c (yes lt) = absurd (not-refused v s short-buffer j (h .refused-buffer P c lt .0))
+    sized P c (yes lt) = absurd (not-refused v s m short-buffer j (h .refused-buffer P c lt .0))
     sized P c (no ge) =
         let w = h .judged P c (omega arith) in
-        let same : Judged (w .0) (w .1) ≡ Judged v s = sym (w .2) ∙ j in
+        let same : Judged (w .0) (w .1) (w .2) ≡ Judged v s m = sym (w .3) ∙ j in
         let e : w .1 ≡ s = cc in
-        small P c (rw e at (w .3 .shares))
+        small P c (rw e at (w .4 .shares))
 
     by : (o : Outcome) → checkTable T ≡ o → FewDigits s
-    by (refused e) c = absurd (not-refused v s e j (h .refused-table e c .0))
+    by (refused e) c = absurd (not-refused v s m e j (h .refused-table e c .0))
     by (accepted P) c = sized P c (decLt (length before) (row-bytes * length P))
 
   pub listed : {l x : List ℕ} {p : ℕ} (n : ℕ) (a : Answer) → n ≡ getD T 0 0 → answer ≡ a

@@ -84,10 +84,14 @@ abbrev pub verdictLine : Verdict → List ℕ
 verdictLine Clear = line clear-word []
 verdictLine (Ring ring) = line ring-word (ring .routine ∷ ring .name ∷ [])
 
--- the listing of a table of n routines, from the answer and the model
-abbrev pub listing : ℕ → List ℕ → Answer → List ℕ
-listing n model (Judged verdict share) =
+-- the listing of a table of n routines that is judged
+abbrev pub judgedListing : ℕ → List ℕ → Verdict → Share → List ℕ
+judgedListing n model verdict share =
     line routines-word (n ∷ []) ++ pairLines n model ++ shareLine share ++ verdictLine verdict
+
+-- the listing of a table of n routines, from the answer and the model; the number of rounds is not in it
+abbrev pub listing : ℕ → List ℕ → Answer → List ℕ
+listing n model (Judged verdict share m) = judgedListing n model verdict share
 listing n model (Refused e) = line refused-word (e ∷ [])
 
 -- the buffer after a text was written from its beginning on: as much of the text as there is room for, and then what was

@@ -4,9 +4,8 @@ ghost use Prim.Native.Nat.{_<_, _≤_};
 ghost use lib.ListN.{getD};
 ghost use Rattle.table.specs.Constants.{most-routines};
 ghost use Rattle.analysis.specs.Answer.{Short};
-ghost use Rattle.analysis.specs.declared.Answer.the-variants.{Judged};
-ghost use Rattle.listing.specs.Text.{Listed, listing, longest};
-ghost use Rattle.append.specs.Appending.{Appends};
+ghost use Rattle.listing.specs.Text.{Listed, judgedListing, longest};
+ghost use Rattle.append.specs.Appends.{Appends};
 ghost use Rattle.listing.specs.laws.Digits.{FewDigits};
 
 mod lines;
@@ -38,7 +37,7 @@ fn routines(table: &[u8]) -> usize
 // Writes the listing of a table of n routines that was judged.
 fn list_judged(out: &mut [u8], n: usize, model: &[u8], verdict: Verdict, share: Share) -> usize
     requires { ⌜ (n ≤ most-routines) × Short verdict × FewDigits share ⌝ }
-    ensures { λ p. ⌜ Appends 0 (listing n (now (model .entry)) (Judged verdict share)) (now (out .entry))
+    ensures { λ p. ⌜ Appends 0 (judgedListing n (now (model .entry)) verdict share) (now (out .entry))
         (now (out .exit)) p ⌝ }
     ensures few { λ p. ⌜ p ≤ longest ⌝ }
 {
@@ -56,7 +55,13 @@ pub fn list(table: &[u8], model: &mut [u8], out: &mut [u8]) -> usize
     ensures short { λ r. ⌜ r ≤ longest ⌝ }
 {
     match analyse(table, model) {
-        Answer::Judged(verdict, share) => list_judged(out, routines(table), model, verdict, share),
+        Answer::Judged(verdict, share, _) => list_judged(
+            out,
+            routines(table),
+            model,
+            verdict,
+            share,
+        ),
         Answer::Refused(e) => put_line(out, 0, b"refused", e),
     }
 }

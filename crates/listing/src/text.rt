@@ -1,30 +1,14 @@
-// Words and decimal numbers, appended to a text in a lent buffer. What has no room there is left out; the place
+// Decimal numbers, appended to a text in a lent buffer. What has no room there is left out; the place
 // counts it all the same.
 ghost use mathlib.Core.List.{_∷_};
 ghost use Prim.Native.Nat.{_+_, _≤_, _<_};
-ghost use lib.ListN.{length};
 ghost use Rattle.listing.specs.Text.{decimal, space};
-ghost use Rattle.append.specs.Appending.{Appends};
+ghost use Rattle.append.specs.Appends.{Appends};
 use append::put_byte;
 
 const SPACE: u8 = 32;
 
 const ZERO: u8 = 48;
-
-// Appends the bytes of w.
-pub fn put(out: &mut [u8], at: usize, w: &[u8]) -> usize
-    requires { ⌜ at + length (now w) < 1000000 ⌝ }
-    ensures { λ r. ⌜ Appends at (now (w .entry)) (now (out .entry)) (now (out .exit)) r ⌝ }
-{
-    let mut p = at;
-    let mut i: usize = 0;
-    while i < w.len() {
-        let next = put_byte(out, p, w[i]);
-        p = next;
-        i += 1;
-    }
-    p
-}
 
 // Appends n as a decimal number.
 fn put_decimal(out: &mut [u8], at: usize, n: u64) -> usize

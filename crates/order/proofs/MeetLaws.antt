@@ -8,6 +8,7 @@ use borrow.Author.Tests.{ne-eqb}
 use native.Mathlib.Decide.{ℕ-discrete}
 use lib.ListN.{length, getD, drop, length-append}
 use lib.Seq.{drop-drop, drop-append-seam}
+use Rattle.pairs.specs.Walks.{pastItem}
 use Rattle.canon.specs.Canonical.{met, allMet}
 use Rattle.order.specs.declared.Order.{Order}
 use Rattle.order.specs.Items.{Item, mark, making, mirroring, locking, calling, itemBytes, flat, calledIn}
@@ -17,6 +18,7 @@ use Rattle.order.specs.Ordering.{listOf, Listed, Met, counted, kept, Can
 use Rattle.order.proofs.OrderLaws.{listed-bytes}
 use Rattle.order.specs.laws.Items.{bytes-some}
 use Rattle.order.specs.laws.Standing.{item-is, item-there, at-call, bytes-there, first-byte, second-byte}
+use Rattle.order.specs.laws.Standing.{past-item}
 
 -- the items that are left: meeting what they call meets all, and their bytes make up the whole
 pub record Left (ks s : List ℕ) (end : ℕ) (o : Order) (i : ℕ) (v : Order) (ts : List Item) (l : List ℕ) : Type 0 where
@@ -136,9 +138,12 @@ module _ (ks s : List ℕ) (at end : ℕ) (o : Order) where
         (c .there, omega arith)
 
     -- the item after which the next one stands at j
-    module _ (j : ℕ) (here : j ≡ i + length (itemBytes (itemAt ks s i))) where
+    module _ (b : CanMeet ks s at end o) (j : ℕ) (passed : j ≡ pastItem ks s i) where
+      here : j ≡ i + length (itemBytes (itemAt ks s i))
+      here = passed ∙ past-item ks s i (any-item b)
+
       pub meeting-less : i < j
-      meeting-less = let b = bytes-some (itemAt ks s i) in omega arith
+      meeting-less = let h = here in let c = bytes-some (itemAt ks s i) in omega arith
 
       pub kept-few : kept (getD s i 0) (j - i) ≤ j - i
       kept-few = elim (ℕ-discrete (getD s i 0) 7) [
@@ -146,36 +151,36 @@ module _ (ks s : List ℕ) (at end : ℕ) (o : Order) where
         | no n ↦ rw (ne-eqb (getD s i 0) 7 n) (omega arith)
       ]
 
-      module _ (b : CanMeet ks s at end o) where
-        pub ends-within : j ≤ end
-        ends-within = by (z .items) (z .items-at)
-          where
-            z : Left ks s end o i v (b .items) (b .rest)
-            z = g .each (b .old) (b .items) (b .rest) (b .items-at)
+      pub ends-within : j ≤ end
+      ends-within = by (z .items) (z .items-at)
+        where
+          z : Left ks s end o i v (b .items) (b .rest)
+          z = g .each (b .old) (b .items) (b .rest) (b .items-at)
 
-            by : (us : List Item) → ItemsAt ks s i end (z .old) us (b .rest) → j ≤ end
-            by [] ia = absurd (let a = ia .ends in omega arith)
-            by (t ∷ us) ia =
-                let it : ItemAt ks s i (z .old) t (flat us ++ b .rest) =
-                record { content = ia .content ∙ append-assoc (itemBytes t) (flat us) (b .rest); good = ia .good .0 } in
-                let e = ap (λ (u : Item). length (itemBytes u)) (item-is ks s i (z .old) t (flat us ++ b .rest) it) in
-                let d = ia .ends in
-                let c = length-append (itemBytes t) (flat us) in
-                omega arith
+          by : (us : List Item) → ItemsAt ks s i end (z .old) us (b .rest) → j ≤ end
+          by [] ia = absurd (let a = ia .ends in omega arith)
+          by (t ∷ us) ia =
+              let it : ItemAt ks s i (z .old) t (flat us ++ b .rest) =
+              record { content = ia .content ∙ append-assoc (itemBytes t) (flat us) (b .rest); good = ia .good .0 } in
+              let e = ap (λ (u : Item). length (itemBytes u)) (item-is ks s i (z .old) t (flat us ++ b .rest) it) in
+              let h = here in
+              let d = ia .ends in
+              let c = length-append (itemBytes t) (flat us) in
+              omega arith
 
-        pub counts-fit : (w : Order) → Stepped ks s i v w → w .bytes + kept (getD s i 0) (j - i) < 2 ^ 64
-        counts-fit w m =
-            let e = m .bytes in
-            let a = kept-few in
-            let c = g .bound in
-            let d = b .room in
-            let f = b .section in
-            let h = ends-within in
-            let y = b .items-at .ends in
-            let n = bytes-there s at (flat (b .items) ++ b .rest) (b .items-at .content) in
-            let k = length-append (flat (b .items)) (b .rest) in
-            let x = meeting-less in
-            omega arith
+      pub counts-fit : (w : Order) → Stepped ks s i v w → w .bytes + kept (getD s i 0) (j - i) < 2 ^ 64
+      counts-fit w m =
+          let e = m .bytes in
+          let a = kept-few in
+          let c = g .bound in
+          let d = b .room in
+          let f = b .section in
+          let h = ends-within in
+          let y = b .items-at .ends in
+          let n = bytes-there s at (flat (b .items) ++ b .rest) (b .items-at .content) in
+          let k = length-append (flat (b .items)) (b .rest) in
+          let x = meeting-less in
+          omega arith
 
       pub meeting-on : (w : Order) → Stepped ks s i v w
           → Meeting ks s at end o j (counted w (kept (getD s i 0) (j - i)))

@@ -1,14 +1,13 @@
 // The order in which routines are first met, reading bodies in new-number order from routine 0, and how long the bodies
 // of these routines are without their mirrors.
 ghost use mathlib.Core.Path.{_≡_};
-ghost use Prim.Native.Nat.{_+_, _<_, _≤_};
+ghost use Prim.Native.Nat.{_<_};
 ghost use lib.ListN.{length};
-ghost use Rattle.table.specs.Constants.{most-routines, most-bytes};
-ghost use Rattle.order.specs.Items.{itemBytes};
-ghost use Rattle.order.specs.Standing.{itemAt, AnyItem, HeldAt, endOf};
+ghost use Rattle.table.specs.Constants.{most-routines};
+ghost use Rattle.order.specs.Standing.{HeldAt, endOf};
 ghost use Rattle.order.specs.Ordering.{orderOf, Listed, Meets, kept, CanMeet, AllMet, Ordered};
+use pairs::walk::past;
 use table::limits::CALL;
-use table::limits::LOCK;
 use table::limits::MIRROR;
 use table::limits::MOST_ROUTINES;
 use table::scope::size;
@@ -50,21 +49,6 @@ fn meet(
     routines[count] = r;
     places[k] = count as u8;
     count + 1
-}
-
-// The offset past the item at `at`.
-fn past(ks: &[u8], s: &[u8], at: usize) -> usize
-    requires { ⌜ AnyItem (now ks) (now s) at × (length (now s) ≤ most-bytes) ⌝ }
-    ensures { λ r. ⌜ r ≡ at + length (itemBytes (itemAt (now (ks .entry)) (now (s .entry)) at)) ⌝ }
-{
-    match s[at] {
-        LOCK | MIRROR => at + 2,
-        CALL => {
-            let r = size(s[at + 1]);
-            at + 2 + size(ks[r])
-        }
-        _ => at + 1,
-    }
 }
 
 // How many of the n bytes of an item with code b are written: none of a MIRROR.

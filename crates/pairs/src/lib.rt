@@ -10,7 +10,7 @@ ghost use Rattle.table.specs.laws.Fine.{IsBody};
 ghost use Rattle.pairs.specs.Contracts.{Scans, Records};
 
 mod calls;
-mod walk;
+pub mod walk;
 
 use calls::called;
 use calls::locked;

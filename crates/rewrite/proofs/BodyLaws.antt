@@ -9,7 +9,8 @@ use Rattle.rewrite.specs.declared.Spot.{Spot}
 use Rattle.order.specs.Items.{Item, mark, making, mirroring, locking, calling, itemBytes, flat}
 use Rattle.rewrite.specs.Writing.{Known}
 use Rattle.rewrite.specs.Writing.{afterItem, written, writtenAll, nameOf}
-use Rattle.append.specs.Appending.{Appends, then, equal-text, nothing, same-size}
+use Rattle.append.specs.Appends.{Appends}
+use Rattle.append.specs.laws.Appending.{then, equal-text, nothing, same-size}
 use Rattle.rewrite.specs.Writing.{knownOf, Fits, Passed}
 use Rattle.order.specs.Standing.{Good, oldAfter, ItemAt, SomeItem, ItemsAt}
 use Rattle.order.specs.Standing.{itemAt}

@@ -10,7 +10,8 @@ use Rattle.rewrite.specs.declared.Spot.{Spot}
 use Rattle.order.specs.Items.{Item, locking, calling, itemBytes}
 use Rattle.rewrite.specs.Writing.{afterItem}
 use Rattle.rewrite.specs.Writing.{written}
-use Rattle.append.specs.Appending.{Appends, then, equal-text, nothing}
+use Rattle.append.specs.Appends.{Appends}
+use Rattle.append.specs.laws.Appending.{then, equal-text, nothing}
 use Rattle.rewrite.specs.Writing.{newNames, knownOf, movedSpot, namedSpot, Passed, PassedAs}
 use Rattle.rewrite.specs.Writing.{MirrorPassed}
 use Rattle.order.specs.Standing.{CallAt, callHere}

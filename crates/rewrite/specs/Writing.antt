@@ -4,7 +4,7 @@ use mathlib.Core.List.{List, [], _∷_, _++_, map}
 use Prim.Native.Nat.{ℕ, _+_, _≤_, _<_}
 use lib.ListN.{length, getD, take, drop, set}
 use Rattle.table.specs.Constants.{most-names, most-params, most-bytes, NEW, LOCK, CALL, code}
-use Rattle.append.specs.Appending.{Appends}
+use Rattle.append.specs.Appends.{Appends}
 use Rattle.order.specs.Items.{Item, mark, making, mirroring, locking, calling, itemBytes}
 use Rattle.order.specs.Standing.{ItemsAt}
 use Rattle.rewrite.specs.declared.Spot.{Spot}

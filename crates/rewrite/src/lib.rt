@@ -2,7 +2,7 @@
 ghost use Prim.Native.Nat.{_+_, _<_, _≤_};
 ghost use lib.ListN.{length, getD};
 ghost use Rattle.table.specs.Constants.{most-names, most-bytes};
-ghost use Rattle.append.specs.Appending.{Appends};
+ghost use Rattle.append.specs.Appends.{Appends};
 ghost use Rattle.order.specs.Items.{making, locking};
 ghost use Rattle.order.specs.Standing.{NameAt, CallAt, callHere, itemAt, SomeItem};
 ghost use Rattle.rewrite.specs.Writing.{NamesAt, newNames, Fits, Passed, PassedAs, MarkPassed, MirrorPassed};

@@ -4,5 +4,10 @@ pub mod Search
 pub mod Reach
 pub mod LeastGiven
 pub mod Positive
+pub mod Steps
+pub mod Acyclic
+pub mod Bound
+pub mod ChainRounds
+pub mod ChainTable
 pub mod Untouched
 pub mod OneBody

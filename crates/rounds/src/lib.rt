@@ -1,1 +1,1 @@
-// Rows worked out in rounds with some rows taken as given: definitions and theorems alone, no code.
+// Rows worked out in rounds: definitions and theorems alone, no code.

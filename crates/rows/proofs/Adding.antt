@@ -12,7 +12,7 @@ use lib.Bits.{bitOr, or-zero-r}
 use Rattle.grid.specs.Rows.{Has, Rel, Bits}
 use Rattle.rules.specs.Label.{several}
 use Rattle.grid.specs.Grid.{Pair, LowestRing}
-use Rattle.rows.specs.Added.{CellBit, AtByte, AtCell, AtRing, Below, Added}
+use Rattle.rows.specs.Added.{CellBit, AtByte, AtCell, AtName, AtRing, Below, Added}
 use Rattle.rows.specs.laws.Totals.{total-set, moves-or}
 use Rattle.rows.proofs.Masks.{no-bits}
 use Rattle.grid.specs.laws.Masks.{or-le, has-left, has-right, has-or, has-zero, has-below}
@@ -137,24 +137,30 @@ no-cell i a b l = added-none (AtCell i a b 0) l (λ p j w. has-zero (w .2 .1 .0)
 pub same-name : (i a b m : ℕ) (l : List ℕ) → a ≡ b → Added (AtCell i a b m) l l false
 same-name i a b m l e = added-none (AtCell i a b m) l (λ p j w. w .1 e)
 
-pub ring-of-byte :
-    (i y : ℕ) (g : List (List ℕ)) (e x : List ℕ) (c : Bool) → LowestRing g y → (y ≡ 16 → ⊥) → Added (AtByte i 1) e x c
-    → Added (AtRing i g) e x c
-ring-of-byte i y g e x c ring ne p =
-    added-map (AtByte i 1) (AtRing i g) e x c to (λ q j w. (w .0, rw (w .1))) p
+-- a ring name below 16 sets the bit, and 16 does not
+pub name-of-byte : (i y : ℕ) (e x : List ℕ) (c : Bool) → y < 16 → Added (AtByte i 1) e x c → Added (AtName i y) e x c
+name-of-byte i y e x c l p = added-map (AtByte i 1) (AtName i y) e x c to (λ q j w. (w .0, rw (w .1))) p
   where
-    to : (q j : ℕ) → AtByte i 1 q j → AtRing i g q j
-    to q j w =
-        let z : j < 1 = has-below 1 1 j (omega arith) (w .1) in
-        (w .0, omega arith, (y, ring .ring (let s = ring .within in omega arith)))
+    to : (q j : ℕ) → AtByte i 1 q j → AtName i y q j
+    to q j w = let z : j < 1 = has-below 1 1 j (omega arith) (w .1) in (w .0, omega arith, l)
 
--- a grid of sixteen rows has no ring from name 16 on
-pub no-ring :
-    (i y : ℕ) (g : List (List ℕ)) (l : List ℕ) → length g ≡ 16 → LowestRing g y → y ≡ 16 → Added (AtRing i g) l l false
-no-ring i y g l long ring e = added-none (AtRing i g) l (λ p j w. none (w .2 .0) (w .2 .1))
+pub no-name : (i y : ℕ) (l : List ℕ) → y ≡ 16 → Added (AtName i y) l l false
+no-name i y l e = added-none (AtName i y) l (λ p j w. let b : y < 16 = w .2 in omega arith)
+
+-- the lowest ring name of a grid of sixteen rows is below 16 where it has a ring
+pub ring-of-name :
+    (i y : ℕ) (g : List (List ℕ)) (e x : List ℕ) (c : Bool) → length g ≡ 16 → LowestRing g y → Added (AtName i y) e x c
+    → Added (AtRing i g) e x c
+ring-of-name i y g e x c long ring p = added-map (AtName i y) (AtRing i g) e x c to from p
   where
-    none : (x : ℕ) → Pair g x x several → ⊥
-    none x w =
-        let s : y ≤ x = ring .lowest x w in
-        let z : getD g x [] ≡ [] = List·getD-eq-default g [] (omega arith) in
-        has-zero (w .0) (subst (λ (r : List ℕ). Has (getD r x 0) (w .0)) z (w .3))
+    to : (q j : ℕ) → AtName i y q j → AtRing i g q j
+    to q j w = (w .0, w .1, (y, ring .ring (w .2)))
+
+    below : (z : ℕ) → Pair g z z several → Dec (z < 16) → y < 16
+    below z w (yes h) = let s : y ≤ z = ring .lowest z w in omega arith
+    below z w (no h) =
+        let d : getD g z [] ≡ [] = List·getD-eq-default g [] (omega arith) in
+        absurd (has-zero (w .0) (subst (λ (r : List ℕ). Has (getD r z 0) (w .0)) d (w .3)))
+
+    from : (q j : ℕ) → AtRing i g q j → AtName i y q j
+    from q j w = let z = w .2 .0 in (w .0, w .1, below z (w .2 .1) (decLt z 16))

@@ -1,21 +1,21 @@
 -- A row of the buffer with the pairs and the ring of a grid added: the places of its bytes, and what each of them has.
-use mathlib.Core.Path.{_≡_, refl, sym, _∙_}
+use mathlib.Core.Path.{_≡_, refl, sym, ap, _∙_}
 use mathlib.Core.Logic.{_≢_, _⊎_, inl, inr, ⊎-elim}
-use mathlib.Core.Bool.{Bool, _||_}
+use mathlib.Core.Bool.{Bool, false, _||_}
 use mathlib.Core.List.{List}
 use Prim.Native.Nat.{ℕ, _+_, _*_, _<_, _≤_}
 use native.Mathlib.Omega.{arith}
 use native.Mathlib.Decide.{ℕ-discrete}
-use lib.ListN.{getD}
+use lib.ListN.{getD, length}
 use Rattle.rules.specs.Label.{Label, cut}
 use Rattle.grid.specs.Rows.{Has, Rel}
-use Rattle.grid.specs.Grid.{Pair}
+use Rattle.grid.specs.Grid.{Pair, LowestRing}
 use Rattle.rows.specs.Bytes.{RowBits, RingByte}
-use Rattle.rows.specs.Model.{ShapedRow, GridRow, HasRing, RowAdded}
-use Rattle.rows.specs.Added.{bitOf, AtRing, InGrid, Added}
+use Rattle.rows.specs.Model.{ShapedRow, GridRow, HasRing, Moves, RowAdded}
+use Rattle.rows.specs.Added.{bitOf, AtName, AtRing, InGrid, Added}
 use Rattle.rows.proofs.Masks.{bit-lt, cut-bit, labelled-has, has-labelled}
 use Rattle.grid.specs.laws.Masks.{has-below, below-bits}
-use Rattle.rows.proofs.Adding.{added-then}
+use Rattle.rows.proofs.Adding.{added-then, ring-of-name}
 
 -- a byte of a row's cells is in one cell alone
 one-cell :
@@ -34,8 +34,8 @@ not-last q r i h e = let s : q ≡ r = omega arith in omega arith
 abbrev RowWith : ℕ → ℕ → List (List ℕ) → Rel
 RowWith r k g p j = InGrid (65 * r) g (k + 1) (k + 1) p j ⊎ AtRing (65 * r + 64) g p j
 
-module _ (e x : List ℕ) (r k : ℕ) (g : List (List ℕ)) (f : Bool) (few : k ≤ 7) where
-  module _ (bytes : (i : ℕ) → getD x i 0 < 256) (added : Added (RowWith r k g) e x f) where
+module _ (e x : List ℕ) (r k : ℕ) (g : List (List ℕ)) (c d : Bool) (few : k ≤ 7) where
+  module _ (bytes : (i : ℕ) → getD x i 0 < 256) (added : Added (RowWith r k g) e x (c || d)) where
     only : (q a b : ℕ) (l : Label) → RowBits x q a b l → RowBits e q a b l ⊎ ((q ≡ r) × GridRow k g a b l)
     only q a b l w = go (added .bits (65 * q + 8 * a + b) .to (bitOf l) (has .0))
       where
@@ -137,8 +137,9 @@ module _ (e x : List ℕ) (r k : ℕ) (g : List (List ℕ)) (f : Bool) (few : k 
           let h : Has (getD x (65 * r + 64) 0) 0 = added .bits (65 * r + 64) .from 0 (inr (inr (refl, refl, ring))) in
           omega arith
 
-      row-of-added : RowAdded e x r k g f
-      row-of-added = record {
+      row-of-added : (y : ℕ) → LowestRing g y
+          → (c ≡ false → (q i : ℕ) → i < 64 → getD x (65 * q + i) 0 ≡ getD e (65 * q + i) 0) → RowAdded e x r k g c d y
+      row-of-added y name same = record {
         long = added .long;
         outside = outside;
         only = only;
@@ -149,12 +150,25 @@ module _ (e x : List ℕ) (r k : ℕ) (g : List (List ℕ)) (f : Bool) (few : k 
         ring-new = ring-new;
         shaped = λ n s q h. shaped-row q (s q h);
         told = added .told;
+        same-cells = same;
+        named = name;
       }
 
-pub row-added :
-    (e m x : List ℕ) (r k : ℕ) (g : List (List ℕ)) (c d : Bool) → k ≤ 7 → ((i : ℕ) → getD x i 0 < 256)
-    → ShapedRow e r → Added (InGrid (65 * r) g (k + 1) (k + 1)) e m c
-    → Added (AtRing (65 * r + 64) g) m x d → RowAdded e x r k g (c || d)
-row-added e m x r k g c d few bytes shape p q =
-    row-of-added e x r k g (c || d) few bytes
-    (added-then (InGrid (65 * r) g (k + 1) (k + 1)) (AtRing (65 * r + 64) g) e m x c d p q) shape
+module _ (e m x : List ℕ) (r k : ℕ) (g : List (List ℕ)) (c d : Bool) (y : ℕ) where
+  -- the last byte of row r is no cell
+  last-alone : Added (AtRing (65 * r + 64) g) m x d → (q i : ℕ) → i < 64 → getD x (65 * q + i) 0 ≡ getD m (65 * q + i) 0
+  last-alone p q i h = p .rest (65 * q + i) (λ j w. not-last q r i h (w .0))
+
+  pub row-added : k ≤ 7 → ((i : ℕ) → getD x i 0 < 256) → length g ≡ 16 → LowestRing g y
+      → ShapedRow e r → Added (InGrid (65 * r) g (k + 1) (k + 1)) e m c
+      → Added (AtName (65 * r + 64) y) m x d → RowAdded e x r k g c d y
+  row-added few bytes long name shape p n =
+      row-of-added e x r k g c d few bytes
+      (added-then (InGrid (65 * r) g (k + 1) (k + 1)) (AtRing (65 * r + 64) g) e m x c d p q) shape y name
+      (λ z i j h. last-alone q i j h ∙ ap (λ (v : List ℕ). getD v (65 * i + j) 0) (told-same z (p .told)))
+    where
+      q : Added (AtRing (65 * r + 64) g) m x d
+      q = ring-of-name (65 * r + 64) y g m x d long name n
+
+      told-same : c ≡ false → Moves c e m → m ≡ e
+      told-same z t = rw z at t

@@ -5,7 +5,7 @@ use mathlib.Core.Bool.{Bool}
 use mathlib.Core.List.{List, []}
 use Prim.Native.Nat.{ℕ, _+_, _*_, _<_}
 use lib.ListN.{getD, length}
-use Rattle.table.specs.Constants.{row-names}
+use Rattle.table.specs.Constants.{most-names, row-names}
 use Rattle.rules.specs.Label.{Label, own, forked, unknown, several}
 use Rattle.grid.specs.Rows.{Has, Rel, Bits}
 use Rattle.grid.specs.Grid.{In}
@@ -33,6 +33,10 @@ AtCell i a b m p j = (p ≡ i) × (a ≢ b) × CellBit m j
 -- a ring of the grid g, in byte i
 abbrev pub AtRing : ℕ → List (List ℕ) → Rel
 AtRing i g p j = (p ≡ i) × (j ≡ 0) × HasRing g
+
+-- the ring name x, and not 16, in byte i
+abbrev pub AtName : ℕ → ℕ → Rel
+AtName i x p j = (p ≡ i) × (j ≡ 0) × (x < most-names)
 
 -- the bits of each of F below n
 abbrev pub Below : (ℕ → Rel) → ℕ → Rel

@@ -1,13 +1,13 @@
 -- The rows of a model buffer, and what adding a closed grid to a row and clearing rows leave.
 use mathlib.Core.Path.{_≡_}
 use mathlib.Core.Logic.{_≢_, _⊎_}
-use mathlib.Core.Bool.{Bool, true, false}
+use mathlib.Core.Bool.{Bool, true, false, _||_}
 use mathlib.Core.List.{List, [], _∷_}
 use Prim.Native.Nat.{ℕ, _+_, _*_, _<_, _≤_}
 use lib.ListN.{getD, length}
 use Rattle.table.specs.Constants.{row-cells, row-bytes}
 use Rattle.rules.specs.Label.{Label, several, cut}
-use Rattle.grid.specs.Grid.{Pair}
+use Rattle.grid.specs.Grid.{Pair, LowestRing}
 use Rattle.rows.specs.Bytes.{RowBits, RingByte}
 
 -- the row of routine r: each cell has labels alone, and the last byte is 0 or 1
@@ -37,8 +37,9 @@ abbrev pub Moves : Bool → List ℕ → List ℕ → Type 0
 Moves false before after = after ≡ before
 Moves true before after = total before < total after
 
--- after is before with the row of the grid g, of a routine of k parameters, added to row r, and changed tells of it
-pub record RowAdded (before after : List ℕ) (r k : ℕ) (g : List (List ℕ)) (changed : Bool) : Type 0 where
+-- after is before with the row of the grid g, of a routine of k parameters, added to row r; the flags tell whether its
+-- cells and its last byte changed, and x is the lowest ring name of the grid, or 16
+pub record RowAdded (before after : List ℕ) (r k : ℕ) (g : List (List ℕ)) (cells last : Bool) (x : ℕ) : Type 0 where
   pub long : length after ≡ length before
   pub outside : (i : ℕ) → (i < row-bytes * r) ⊎ (row-bytes * r + row-bytes ≤ i) → getD after i 0 ≡ getD before i 0
   pub only : (q a b : ℕ) (l : Label)
@@ -49,7 +50,10 @@ pub record RowAdded (before after : List ℕ) (r k : ℕ) (g : List (List ℕ)) 
   pub ring-old : (q : ℕ) → RingByte before q → RingByte after q
   pub ring-new : HasRing g → RingByte after r
   pub shaped : (n : ℕ) → Shaped n before → Shaped n after
-  pub told : Moves changed before after
+  pub told : Moves (cells || last) before after
+  pub same-cells : cells ≡ false → (q i : ℕ) → i < row-cells
+      → getD after (row-bytes * q + i) 0 ≡ getD before (row-bytes * q + i) 0
+  pub named : LowestRing g x
 
 -- after is before with the bytes from start to end zero
 pub record Cleared (start end : ℕ) (before after : List ℕ) : Type 0 where

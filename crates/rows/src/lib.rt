@@ -1,10 +1,10 @@
 // Rows of the model buffer: adding the row of a closed grid, and clearing rows.
 ghost use Prim.Native.Nat.{_+_, _*_, _<_, _≤_};
 ghost use lib.ListN.{length};
-ghost use Rattle.table.specs.Constants.{most-params, row-cells, row-bytes};
+ghost use Rattle.table.specs.Constants.{most-names, most-params, row-cells, row-bytes};
 ghost use Rattle.grid.specs.Rows.{Bits};
 ghost use Rattle.rows.specs.Model.{ShapedRow, RowAdded, Cleared};
-ghost use Rattle.rows.specs.Added.{CellBit, AtByte, AtCell, AtRing, InRow, InGrid, Added};
+ghost use Rattle.rows.specs.Added.{CellBit, AtByte, AtCell, AtName, InRow, InGrid, Added};
 use grid::Grid;
 use rules::SEVERAL_BIT;
 use rules::UNKNOWN_BIT;
@@ -81,27 +81,39 @@ fn with_pairs(model: &mut [u8], start: usize, g: &Grid, k: usize) -> bool
     changed
 }
 
-// Sets byte i if the grid has a ring.
-fn with_ring(model: &mut [u8], i: usize, g: Grid) -> bool
-    requires { ⌜ i < length (now model) ⌝ }
-    ensures { λ r. ⌜ Added (AtRing i g) (now (model .entry)) (now (model .exit)) r ⌝ }
+// Sets byte i if x is a ring name, and not MOST_NAMES.
+fn with_ring(model: &mut [u8], i: usize, x: usize) -> bool
+    requires { ⌜ (i < length (now model)) × (x ≤ most-names) ⌝ }
+    ensures { λ r. ⌜ Added (AtName i x) (now (model .entry)) (now (model .exit)) r ⌝ }
 {
-    let x = grid::ring_name(g);
     if x == MOST_NAMES {
         return false;
     }
     with_byte(model, i, 1)
 }
 
-// Adds the row that the closed grid g gives a routine of k parameters to row r, and says whether that changed it.
-pub fn with_row(model: &mut [u8], r: usize, k: usize, g: Grid) -> bool
+// What adding a row gives: whether that changed its cells, and whether its last byte; and the lowest name with a ring,
+// or MOST_NAMES.
+pub struct Change {
+    pub cells: bool,
+    pub last: bool,
+    pub name: u8,
+}
+
+// Adds the row that the closed grid g gives a routine of k parameters to row r.
+pub fn with_row(model: &mut [u8], r: usize, k: usize, g: Grid) -> Change
     requires { ⌜ (k ≤ most-params) × (row-bytes * r + row-bytes ≤ length (now model)) × ShapedRow (now model) r ⌝ }
-    ensures { λ c. ⌜ RowAdded (now (model .entry)) (now (model .exit)) r k g c ⌝ }
+    ensures { λ c. ⌜ RowAdded (now (model .entry)) (now (model .exit)) r k g (c .cells) (c .last) (c .name) ⌝ }
 {
     let start = ROW_BYTES * r;
-    let pairs = with_pairs(model, start, &g, k);
-    let ring = with_ring(model, start + ROW_CELLS, g);
-    pairs | ring
+    let x = grid::ring_name(g);
+    let cells = with_pairs(model, start, &g, k);
+    let last = with_ring(model, start + ROW_CELLS, x);
+    Change {
+        cells: cells,
+        last: last,
+        name: x as u8,
+    }
 }
 
 // Sets the bytes from start to end to zero.

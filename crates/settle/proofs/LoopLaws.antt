@@ -1,33 +1,25 @@
--- The loop over due rows: what holds at each turn, that a turn is left for, and that the loop ends; where all rows were
--- worked out they are the model's.
-use mathlib.Core.Path.{_≡_, refl, _∙_, subst}
+-- The loop over due rows: what holds at each turn, that a turn is left for, and that the loop ends.
+use mathlib.Core.Path.{_≡_, refl, _∙_}
 use mathlib.Core.Logic.{_≢_, _⊎_, inl, inr, ⊎-elim}
-use mathlib.Core.Bool.{Bool, true, false}
+use mathlib.Core.Bool.{Bool, true, false, _||_}
 use mathlib.Core.List.{List, []}
 use Prim.Native.Nat.{ℕ, _+_, _-_, _*_, _%_, _^_, _≤_, _<_}
 use native.Mathlib.Omega.{arith}
 use native.Mathlib.Decide.{ℕ-discrete}
 use lib.ListN.{length, getD, set, length-set}
 use lib.Bits.{bitOr, or-lt}
-use Rattle.table.specs.Program.{Program, params, body}
+use Rattle.table.specs.Program.{Program, body}
 use Rattle.table.specs.laws.ScopeMask.{grows}
-use Rattle.rules.specs.Label.{Label, several}
-use Rattle.rules.specs.Model.{Model}
 use Rattle.rules.specs.Verdict.{Calls}
-use Rattle.rules.specs.laws.Least.{row-mono}
 use Rattle.grid.specs.Rows.{Has, Bits}
 use Rattle.grid.specs.laws.Masks.{has-zero, has-below, has-left, has-right, has-or}
-use Rattle.rows.specs.Model.{RowAdded, Cleared, total, Moves}
+use Rattle.rows.specs.Model.{total, Moves}
 use Rattle.rows.specs.laws.Totals.{room-falls}
-use Rattle.table.specs.Constants.{row-bytes}
-use Rattle.settle.specs.Due.{All}
-use Rattle.rounds.specs.laws.LeastGiven.{model-listed, model-to}
-use Rattle.rows.specs.Bytes.{RowsOf}
-use Rattle.settle.specs.Settle.{AllFresh, PartlyWith, Fresh, Whole}
-use Rattle.table.specs.laws.Sections.{routines, params-at, few}
+use Rattle.settle.specs.Settle.{PartlyWith, Fresh}
+use Rattle.table.specs.laws.Sections.{routines, few}
 use Rattle.settle.specs.Bodies.{Linked, BodyOf, RowReady, Improves}
-use Rattle.settle.specs.Bodies.{Started, Settles, CanSettle, Settled}
-use Rattle.settle.specs.laws.Cleared.{has?, cleared-with}
+use Rattle.settle.specs.Bodies.{Started, Settles}
+use Rattle.settle.specs.laws.Cleared.{has?}
 use Rattle.settle.specs.laws.Off.{taken, rest-bits, rest-less, rest-below}
 use Rattle.settle.proofs.SettleLaws.{improved-partly}
 
@@ -45,13 +37,6 @@ partly-as P T before model names more due next f p = record {
   fresh = f;
 }
 
--- a row that was added for as many names as the byte says was added for the parameters
-pub added-by : (P : Program) (ks s : List ℕ) (at r : ℕ) → BodyOf P ks s at r → (k : ℕ) → k ≡ getD ks r 0
-    → {before after : List ℕ} {g : List (List ℕ)} {changed : Bool}
-    → RowAdded before after r k g changed → RowAdded before after r (params P r) g changed
-added-by P ks s at r o k e {before} {after} {g} {changed} h =
-    subst (λ (v : ℕ). RowAdded before after r v g changed) (e ∙ params-at P ks s (o .holds) r) h
-
 -- the measure: the room for bits, and then the mask, which is below 2 ^ 65
 abbrev pub size-left : List ℕ → ℕ → ℕ
 size-left model left = (255 * length model - total model) * 36893488147419103232 + left
@@ -65,11 +50,18 @@ less-changed model after left next changed e long bytes moves b =
     omega arith
 
 -- without a change the mask is less
-pub less-same : (model after : List ℕ) (left next : ℕ) (changed : Bool) → changed ≡ false → Moves changed model after
-    → next < left → size-left after next < size-left model left
-less-same model after left next changed e moves b =
-    let s : after ≡ model = rw e at moves in
-    rw s (omega arith)
+less-same : (model after : List ℕ) (left next : ℕ) → after ≡ model → next < left
+    → size-left after next < size-left model left
+less-same model after left next s b = rw s (omega arith)
+
+-- where no cell changed the last byte may have, and else the mask is less
+less-cells : (model after : List ℕ) (left next : ℕ) (cells last : Bool) → cells ≡ false → length after ≡ length model
+    → ((i : ℕ) → getD after i 0 < 256) → Moves (cells || last) model after → next < left → left < 36893488147419103232
+    → size-left after next < size-left model left
+less-cells model after left next cells true e long bytes moves b c =
+    less-changed model after left next true refl long bytes (rw e at moves) (omega arith)
+less-cells model after left next cells false e long bytes moves b c =
+    less-same model after left next (rw e at moves) b
 
 -- what holds at each turn, of the rows, the ring names, the mask of those that are due, and the last one worked out
 pub record Going (ks s starts callers : List ℕ) (mask : ℕ) (from model names : List ℕ) (left last : ℕ) : Type 0 where
@@ -116,7 +108,7 @@ module _ (ks s starts callers : List ℕ) (mask : ℕ) (from : List ℕ) where
         let b = listed in
         omega arith
 
-    pub row-ready : Started ks s starts callers mask from → RowReady ks s (getD starts r 0) r model
+    pub row-ready : Started ks s starts callers mask from → RowReady ks s (getD starts r 0) r model model
     row-ready st =
         let b = at-body (st .program) (st .linked) in
         let l = st .long in
@@ -124,6 +116,7 @@ module _ (ks s starts callers : List ℕ) (mask : ℕ) (from : List ℕ) where
         record {
           program = st .program;
           body-of = b;
+          rows-long = omega arith;
           long = omega arith;
           shaped = go .partly (st .program) (st .before) (st .linked) (st .partly) .shaped r (b .listed);
         }
@@ -160,8 +153,8 @@ module _ (ks s starts callers : List ℕ) (mask : ℕ) (from : List ℕ) where
           step (yes e) = inl e
           step (no n) = inr (rest-off .from q (n, h))
 
-      module _ (after : List ℕ) (changed : Bool) (x : ℕ)
-          (imp : Improves ks s (getD starts r 0) r model after changed x)
+      module _ (after : List ℕ) (cells last-byte : Bool) (x : ℕ)
+          (imp : Improves ks s (getD starts r 0) r model model after cells last-byte x)
           (same-length : length after ≡ length model) (st : Started ks s starts callers mask from) where
         listed-at : (P : Program) → Linked P ks s starts callers → (q : ℕ) → Has mask q → q < length P
         listed-at P k q h =
@@ -172,7 +165,7 @@ module _ (ks s starts callers : List ℕ) (mask : ℕ) (from : List ℕ) where
 
         turn : (next : ℕ) → next < 2 ^ length ks → ((q : ℕ) → Has next q → Has mask q) → ((q : ℕ) → Has rest q → Has
             next q)
-            → (changed ≡ true → (P : Program) → Linked P ks s starts callers → (q : ℕ) → q < length P → Calls (body P
+            → (cells ≡ true → (P : Program) → Linked P ks s starts callers → (q : ℕ) → q < length P → Calls (body P
             q) r
             → Has next q)
             → Going ks s starts callers mask from after (set names r x) next r
@@ -184,7 +177,7 @@ module _ (ks s starts callers : List ℕ) (mask : ℕ) (from : List ℕ) where
           swept = let l = listed in omega arith;
           partly = λ P before k p.
               let o = at-body P k in
-              improved-partly P (Has mask) (has? mask) (listed-at P k) before model after names r changed x
+              improved-partly P (Has mask) (has? mask) (listed-at P k) before model after names r cells last-byte x
               (go .within r bit) (Has left) (go .partly P before k p)
               (imp P o) (let l = listed in let f = go .names-long in omega arith) (Has next)
               (λ q h. ⊎-elim (λ e. inl e) (λ x. inr (f q x)) (still q h)) (λ e. g e P k);
@@ -201,17 +194,22 @@ module _ (ks s starts callers : List ℕ) (mask : ℕ) (from : List ℕ) where
             (λ q h. has-left rest (getD callers r 0) q h)
             (λ e P k q lq w. has-right rest (getD callers r 0) q (k .callers-of r q lq w))
 
-        moves : Moves changed model after
+        moves : Moves (cells || last-byte) model after
         moves = imp (st .program) (at-body (st .program) (st .linked)) .added .told
 
-        pub less-then : changed ≡ true → ((i : ℕ) → getD after i 0 < 256)
+        pub less-then : cells ≡ true → ((i : ℕ) → getD after i 0 < 256)
             → (next : ℕ) → next < 36893488147419103232 → size-left after next < size-left model left
-        less-then e bytes next b = less-changed model after left next changed e same-length bytes moves b
+        less-then e bytes next b =
+            less-changed model after left next (cells || last-byte) (rw e) same-length bytes moves b
 
-        pub less-else : changed ≡ false → size-left after rest < size-left model left
-        less-else e = less-same model after left rest changed e moves (rest-less (length ks) left r few (go .below) bit)
+        pub less-else : cells ≡ false → ((i : ℕ) → getD after i 0 < 256) → size-left after rest < size-left model left
+        less-else e bytes =
+            let g : 2 ^ length ks ≤ 2 ^ 64 = grows (length ks) 64 few in
+            let b = go .below in
+            less-cells model after left rest cells last-byte e same-length bytes moves
+            (rest-less (length ks) left r few (go .below) bit) (omega arith)
 
-        pub turn-same : changed ≡ false → Going ks s starts callers mask from after (set names r x) rest r
+        pub turn-same : cells ≡ false → Going ks s starts callers mask from after (set names r x) rest r
         turn-same e = turn rest low from-mask (λ q h. h)
             (λ z. absurd (let o : _≡_ {A = ℕ} 0 1 = cc in omega arith))
 
@@ -221,69 +219,3 @@ module _ (ks s starts callers : List ℕ) (mask : ℕ) (from : List ℕ) where
       let q = go .partly P before k p in
       partly-as P (Has mask) before model names names (Has left) (λ r. ⊥)
       (λ r t n. q .fresh r t (λ h. has-zero r (rw e at h))) q
-
--- all rows were worked out: they are the model's
-pub whole-partly : (P : Program) (mask : ℕ) (before model names : List ℕ) → All (length P) mask
-    → PartlyWith P (Has mask) before model names (λ r. ⊥) → AllFresh P before model names
-whole-partly P mask before model names all p = record {
-  long = p .long;
-  rest = p .rest;
-  shaped = p .shaped;
-  sound = λ q a b l w. row-mono P (Whole P (Has mask) before) (Model P) to q a b l
-      (p .sound q a b l (all .bits .from q (w .0)) w);
-  ring-sound = λ q h b.
-      let w = p .ring-sound q (all .bits .from q h) b in (w .0, to q (w .0) (w .0) several (w .1));
-  fresh = λ q h. p .fresh q (all .bits .from q h) (λ z. z);
-}
-  where
-    to : (q a b : ℕ) (l : Label) → Whole P (Has mask) before q a b l → Model P q a b l
-    to = model-to P (Has mask) (RowsOf (length P) before) (has? mask)
-        (λ q a b l n w. absurd (n (all .bits .from q (w .0))))
-        (λ q a b l n w. absurd (n (all .bits .from q (model-listed P (w .1)))))
-
--- cleared rows, all due
-cleared-partly : (P : Program) (mask : ℕ) (before after : List ℕ) → All (length P) mask
-    → row-bytes * length P ≤ length before → Cleared 0 (row-bytes * length P) before after
-    → PartlyWith P (Has mask) before after [] (Has mask)
-cleared-partly P mask before after all l k =
-    cleared-with P mask before after (all .below) (k .long) (λ i h. k .rest i (inr h))
-    (λ q i h t j. k .zero (65 * q + i) (omega arith) (omega arith)) (λ q i h n j. absurd (n (all .bits .from q h)))
-    (λ q h n. absurd (n (all .bits .from q h)))
-
--- what is settled from cleared rows
-pub settled-from : (ks s starts callers before cleared after names : List ℕ) (mask : ℕ) → All (length ks) mask
-    → Cleared 0 (65 * length ks) before cleared → Settles ks s starts callers mask cleared after names
-    → Settled ks s starts callers before after names
-settled-from ks s starts callers before cleared after names mask all k st P known l =
-    let e = routines P ks s (known .holds) in
-    whole-partly P mask before after names (rw e at all)
-    (st P before known (cleared-partly P mask before cleared (rw e at all) l (rw e at k)))
-
-pub can-start : (ks s starts callers before cleared : List ℕ) (mask : ℕ) → CanSettle ks s starts callers before
-    → All (length ks) mask → Cleared 0 (65 * length ks) before cleared → Started ks s starts callers mask cleared
-can-start ks s starts callers before cleared mask p all k =
-    let e = routines (p .program) ks s (p .linked .holds) in
-    let l = p .long in
-    let g = k .long in
-    record {
-      program = p .program;
-      linked = p .linked;
-      rising = record {
-        below = rw e at (all .below);
-        closed = λ r q t h.
-            let b = has-below (getD callers r 0) (length (p .program)) q (p .linked .callers-below .1 r) h in
-            all .bits .from q (omega arith);
-      };
-      long = omega arith;
-      before = before;
-      partly = cleared-partly (p .program) mask before cleared (rw e at all) l (rw e at k);
-    }
-
-pub room : (ks s starts callers model : List ℕ) → CanSettle ks s starts callers model → 65 * length ks ≤ length model
-room ks s starts callers model p =
-    let e = routines (p .program) ks s (p .linked .holds) in
-    let l = p .long in
-    omega arith
-
-pub few-settled : (ks s starts callers model : List ℕ) → CanSettle ks s starts callers model → length ks ≤ 64
-few-settled ks s starts callers model p = few ks s (p .program, p .linked .holds)

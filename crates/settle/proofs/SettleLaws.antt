@@ -22,14 +22,15 @@ use Rattle.rounds.specs.laws.LeastGiven.{Within, derived-mono, with-satisfies}
 use Rattle.settle.specs.Settle.{WorkedOut, Named, Fresh, Whole, PartlyWith, Improved}
 
 module _ (P : Program) (T : ℕ → Type 0) (T? : (q : ℕ) → Dec (T q)) (listed : (q : ℕ) → T q → q < length P)
-    (before model after names : List ℕ) (r : ℕ) (changed : Bool) (x : ℕ) (tr : T r)
-    (due : ℕ → Type 0) (part : PartlyWith P T before model names due) (imp : Improved P model after r changed x)
+    (before model after names : List ℕ) (r : ℕ) (cells last : Bool) (x : ℕ) (tr : T r)
+    (due : ℕ → Type 0) (part : PartlyWith P T before model names due)
+    (imp : Improved P model model after r cells last x)
     (place : r < length names) where
   -- the ring names afterwards
   abbrev renamed : List ℕ
   renamed = set names r x
 
-  add : RowAdded model after r (params P r) (imp .grid) changed
+  add : RowAdded model after r (params P r) (imp .grid) cells last x
   add = imp .added
 
   -- a pair of the new rows is an old one, or is worked out for routine r
@@ -47,7 +48,7 @@ module _ (P : Program) (T : ℕ → Type 0) (T? : (q : ℕ) → Dec (T q)) (list
       go : Dec (T q) → RowsWith P T (RowsOf (length P) before) (Whole P T before) q a b l
       go (yes t) = inl (t, part .sound q a b l t w)
       go (no n) =
-          inr (n, row-moves (length P) model before q a b l (λ i h. sym (part .others q i (w .0) n h)) w)
+          inr (n, row-moves (length P) model before q a b l (λ i h. sym (part .others q i (w .0) n (omega arith))) w)
 
   -- so only those are worked out from them
   whole-step : (a b : ℕ) (l : Label) → WorkedOut P model r a b l → Whole P T before r a b l
@@ -124,9 +125,9 @@ module _ (P : Program) (T : ℕ → Type 0) (T? : (q : ℕ) → Dec (T q)) (list
         up : {a : ℕ} → a ≤ params P q → a ≤ params P r
         up {a} h = subst (λ (v : ℕ). a ≤ params P v) e h
 
-  -- what is due afterwards: what was due but r, and, where the row changed, its callers
+  -- what is due afterwards: what was due but r, and, where a cell changed, its callers
   pub improved-partly : (next : ℕ → Type 0) → ((q : ℕ) → due q → (q ≡ r) ⊎ next q)
-      → (changed ≡ true → (q : ℕ) → q < length P → Calls (body P q) r → next q)
+      → (cells ≡ true → (q : ℕ) → q < length P → Calls (body P q) r → next q)
       → PartlyWith P T before after renamed next
   improved-partly next left callers = record {
     long = add .long ∙ part .long;
@@ -138,18 +139,14 @@ module _ (P : Program) (T : ℕ → Type 0) (T? : (q : ℕ) → Dec (T q)) (list
     fresh = λ q t n. fresh q (listed q t) t n (ℕ-discrete q r);
   }
     where
-      unchanged : (b : Bool) → changed ≡ b → (q : ℕ) → q < length P → (next q → ⊥) → (p a b : ℕ) (l : Label)
+      unchanged : (b : Bool) → cells ≡ b → (q : ℕ) → q < length P → (next q → ⊥) → (p a b : ℕ) (l : Label)
           → Calls (body P q) p → RowsOf (length P) after p a b l → RowsOf (length P) model p a b l
       unchanged false e q lq n p a b l k w =
-          let s : after ≡ model = told-same e in
-          rw s at w
-        where
-          told-same : changed ≡ false → after ≡ model
-          told-same z = rw z at (add .told)
+          row-moves (length P) after model p a b l (λ i h. sym (add .same-cells e p i h)) w
       unchanged true e q lq n p a b l k w =
           ⊎-elim (λ x. x) (λ x. absurd (n (callers e q lq (rw (x .0) at k)))) (split p a b l w)
 
       fresh : (q : ℕ) → q < length P → T q → (next q → ⊥) → Dec (q ≡ r) → Fresh P after renamed q
-      fresh q lq t n (yes e) = becomes-fresh q lq (unchanged changed refl q lq n) e
-      fresh q lq t n (no m) = stays-fresh q lq (unchanged changed refl q lq n) m
+      fresh q lq t n (yes e) = becomes-fresh q lq (unchanged cells refl q lq n) e
+      fresh q lq t n (no m) = stays-fresh q lq (unchanged cells refl q lq n) m
           (part .fresh q t (λ d. ⊎-elim (λ e. m e) n (left q d)))

@@ -1,51 +1,27 @@
 -- What is worked out in a body: the walk records, and the closing composes.
 use mathlib.Core.Path.{_≡_, ap, _∙_}
 use mathlib.Core.Logic.{⊎-elim}
-use mathlib.Core.List.{List, [], _++_}
-use Prim.Native.Nat.{ℕ, _*_, _≤_, _<_}
+use mathlib.Core.List.{List, _++_}
+use Prim.Native.Nat.{ℕ, _*_, _≤_}
 use native.Mathlib.Omega.{arith}
-use native.Mathlib.Decide.{decLt}
-use lib.ListN.{length, getD, drop, List·getD-eq-default}
+use lib.ListN.{length, getD, drop}
 use Rattle.table.specs.Constants.{END}
-use Rattle.table.specs.Program.{Program, body}
+use Rattle.table.specs.Program.{body}
 use Rattle.table.specs.Encoding.{encode}
 use Rattle.table.specs.laws.Formed.{well-formed}
-use Rattle.rules.specs.Label.{Label, several}
+use Rattle.rules.specs.Label.{Label}
 use Rattle.rules.specs.Model.{atHead}
 use Rattle.rules.specs.Derived.{RecordedFrom, Closed, KeptFrom}
-use Rattle.grid.specs.Grid.{Pair, Small, AllKept, Empty, Closure, LowestRing}
-use Rattle.grid.specs.laws.Masks.{has-zero}
+use Rattle.grid.specs.Grid.{Pair, Small, AllKept, Empty, Closure}
 use Rattle.rows.specs.Bytes.{RowBits, RowsOf}
 use Rattle.rows.specs.laws.Fixpoint.{closed-mono, recorded-calls}
 use Rattle.table.specs.laws.Fine.{IsBody}
 use Rattle.pairs.specs.Gains.{Gains}
 use Rattle.pairs.specs.Contracts.{Records}
-use Rattle.settle.specs.Settle.{GridOf, Named}
 use Rattle.settle.specs.Bodies.{BodyReady, Works}
 use Rattle.rules.specs.laws.Verdict.{body-calls}
 use Rattle.table.specs.laws.Sections.{routines}
 use Rattle.settle.specs.laws.Surveys.{rest, fine-here, bytes-here, is-body}
-
--- a pair of a grid starts at one of its rows
-pair-inside : (g : List (List ℕ)) (a b : ℕ) (l : Label) → Pair g a b l → a < length g
-pair-inside g a b l p = elim (decLt a (length g)) [
-  | yes q ↦ q
-  | no q ↦
-      let e : getD g a [] ≡ [] = List·getD-eq-default g [] {n = a} (omega arith) in
-      absurd (has-zero (p .0) (rw e at (p .3)))
-]
-
--- the ring name of a grid is that of the body
-pub named-by : (P : Program) (model : List ℕ) (r : ℕ) (g : List (List ℕ)) (x : ℕ) → length g ≤ 16 → GridOf P model r g
-    → LowestRing g x → Named P model r x
-named-by P model r g x long pairs name = record {
-  ring = λ l. pairs .only x x several (name .ring l);
-  lowest = λ y w.
-      let p = pairs .all y y several w in
-      let i = pair-inside g y y several p in
-      let l = name .lowest y p in
-      (l, omega arith);
-}
 
 module _ (ks s : List ℕ) (at r : ℕ) (rows : List ℕ) where
   pub can-record : BodyReady ks s at r rows → IsBody ks (getD ks r 0) s at × (65 * length ks ≤ length rows)

@@ -13,7 +13,7 @@ use Rattle.rules.specs.Verdict.{Calls}
 use Rattle.grid.specs.Rows.{Has}
 use Rattle.rows.specs.Model.{ShapedRow}
 use Rattle.settle.specs.Due.{Below}
-use Rattle.settle.specs.Settle.{GridOf, Improved, AllFresh, PartlyWith}
+use Rattle.settle.specs.Settle.{GridOf, Improved, PartlyWith}
 
 -- the offset at which the body of routine r starts
 abbrev pub startOf : Program → ℕ → ℕ
@@ -37,16 +37,19 @@ pub record BodyReady (ks s : List ℕ) (at r : ℕ) (rows : List ℕ) : Type 0 w
 abbrev pub Works : List ℕ → List ℕ → ℕ → ℕ → List ℕ → List (List ℕ) → Type 0
 Works ks s at r rows g = (P : Program) → BodyOf P ks s at r → GridOf P rows r g
 
--- the body of routine r starts at the offset, and its row is there and has labels alone
-pub record RowReady (ks s : List ℕ) (at r : ℕ) (model : List ℕ) : Type 0 where
+-- the body of routine r starts at the offset, the rows are there to work it out from, and its own row in the model is
+-- there and has labels alone
+pub record RowReady (ks s : List ℕ) (at r : ℕ) (rows model : List ℕ) : Type 0 where
   pub program : Program
   pub body-of : BodyOf program ks s at r
+  pub rows-long : row-bytes * length program ≤ length rows
   pub long : row-bytes * length program ≤ length model
   pub shaped : ShapedRow model r
 
--- the row of routine r was worked out again, and x is its ring name
-abbrev pub Improves : List ℕ → List ℕ → ℕ → ℕ → List ℕ → List ℕ → Bool → ℕ → Type 0
-Improves ks s at r before after changed x = (P : Program) → BodyOf P ks s at r → Improved P before after r changed x
+-- the row of routine r was worked out again from the rows, and x is its ring name
+abbrev pub Improves : List ℕ → List ℕ → ℕ → ℕ → List ℕ → List ℕ → List ℕ → Bool → Bool → ℕ → Type 0
+Improves ks s at r rows before after cells last x =
+    (P : Program) → BodyOf P ks s at r → Improved P rows before after r cells last x
 
 -- where the bodies start, and what each calls, as bits
 pub record Surveyed (P : Program) (starts calls : List ℕ) : Type 0 where
@@ -95,15 +98,3 @@ abbrev pub Settles : List ℕ → List ℕ → List ℕ → List ℕ → ℕ →
 Settles ks s starts callers mask from to names =
     (P : Program) (before : List ℕ) → Linked P ks s starts callers
     → PartlyWith P (Has mask) before from [] (Has mask) → PartlyWith P (Has mask) before to names (λ r. ⊥)
-
--- the rows can be worked out
-pub record CanSettle (ks s starts callers model : List ℕ) : Type 0 where
-  pub program : Program
-  pub linked : Linked program ks s starts callers
-  pub long : row-bytes * length program ≤ length model
-
--- the buffer has the rows of the least model, and the list has the ring names
-abbrev pub Settled : List ℕ → List ℕ → List ℕ → List ℕ → List ℕ → List ℕ → List ℕ → Type 0
-Settled ks s starts callers before after names =
-    (P : Program) → Linked P ks s starts callers → row-bytes * length P ≤ length before
-    → AllFresh P before after names

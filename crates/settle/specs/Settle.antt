@@ -60,9 +60,10 @@ pub record GridOf (P : Program) (model : List ℕ) (r : ℕ) (g : List (List ℕ
   pub only : (a b : ℕ) (l : Label) → Pair g a b l → WorkedOut P model r a b l
   pub all : (a b : ℕ) (l : Label) → WorkedOut P model r a b l → Pair g a b l
 
--- after is before with the row of routine r worked out again, and x is its ring name
-pub record Improved (P : Program) (before after : List ℕ) (r : ℕ) (changed : Bool) (x : ℕ) : Type 0 where
+-- after is before with the row of routine r worked out again from the rows, and x is its ring name; the flags tell
+-- whether its cells and its last byte changed
+pub record Improved (P : Program) (rows before after : List ℕ) (r : ℕ) (cells last : Bool) (x : ℕ) : Type 0 where
   pub grid : List (List ℕ)
-  pub pairs : GridOf P before r grid
-  pub added : RowAdded before after r (params P r) grid changed
-  pub named : Named P before r x
+  pub pairs : GridOf P rows r grid
+  pub added : RowAdded before after r (params P r) grid cells last x
+  pub named : Named P rows r x

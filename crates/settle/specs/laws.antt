@@ -4,4 +4,5 @@ pub mod Off
 pub mod Cleared
 pub mod Starts
 pub mod Surveys
+pub mod Improving
 pub mod Links

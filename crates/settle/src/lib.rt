@@ -1,19 +1,19 @@
-// The rows of the least model, worked out until none is due; the parts that this takes, for the crates above.
+// What is worked out in a body; rows worked out until none is due; and what goes before that, for the crates above.
 ghost use Rattle.settle.specs.Bodies.{BodyReady, Works, RowReady, Improves, Started, Settles};
-ghost use Rattle.settle.specs.Bodies.{CanSettle, Settled};
 
 pub mod due;
 pub mod reach;
 pub mod survey;
 
 use grid::Grid;
+use rows::Change;
+use rows::with_row;
 use table::limits::MOST_NAMES;
 use table::limits::MOST_ROUTINES;
-use table::limits::ROW_BYTES;
 use table::scope::size;
 
 // The pairs worked out in the body of routine r, which is at `at`, from the rows, as a grid.
-fn worked_out(ks: &[u8], s: &[u8], at: usize, r: usize, rows: &[u8]) -> Grid
+pub fn worked_out(ks: &[u8], s: &[u8], at: usize, r: usize, rows: &[u8]) -> Grid
     requires { ⌜ BodyReady (now ks) (now s) at r (now rows) ⌝ }
     ensures { λ g. ⌜ Works (now (ks .entry)) (now (s .entry)) at r (now (rows .entry)) g ⌝ }
 {
@@ -22,32 +22,21 @@ fn worked_out(ks: &[u8], s: &[u8], at: usize, r: usize, rows: &[u8]) -> Grid
 }
 
 // What stands for the ring name of a body that has none.
-const NO_RING: u8 = MOST_NAMES as u8;
+pub const NO_RING: u8 = MOST_NAMES as u8;
 
-// What working out a row gives: whether that changed it, and the lowest name with a ring in the body, or NO_RING.
-struct Improvement {
-    changed: bool,
-    name: u8,
-}
-
-// Works out the row of routine r, whose body is at `at`.
-fn improve(ks: &[u8], s: &[u8], at: usize, r: usize, model: &mut [u8]) -> Improvement
-    requires { ⌜ RowReady (now ks) (now s) at r (now model) ⌝ }
-    ensures { λ w. ⌜ Improves (now (ks .entry)) (now (s .entry)) at r (now (model .entry)) (now (model .exit))
-        (w .changed) (w .name) ⌝ }
+// Works out the row of routine r, whose body is at `at`, from the rows beside it.
+fn improve(ks: &[u8], s: &[u8], at: usize, r: usize, model: &mut [u8]) -> Change
+    requires { ⌜ RowReady (now ks) (now s) at r (now model) (now model) ⌝ }
+    ensures { λ w. ⌜ Improves (now (ks .entry)) (now (s .entry)) at r (now (model .entry)) (now (model .entry))
+        (now (model .exit)) (w .cells) (w .last) (w .name) ⌝ }
 {
     let k = size(ks[r]);
     let g = worked_out(ks, s, at, r, model);
-    let name = grid::ring_name(g) as u8;
-    let changed = rows::with_row(model, r, k, g);
-    Improvement {
-        changed: changed,
-        name: name,
-    }
+    with_row(model, r, k, g)
 }
 
-// Works out the rows of the mask, and those of the callers of each row that changes, until none is due. Gives the
-// lowest name with a ring in each body of the mask, or NO_RING.
+// Works out the rows of the mask, and those of the callers of each row with a cell that changes, until none is due.
+// Gives the lowest name with a ring in each body of the mask, or NO_RING.
 pub fn settle_due(
     ks: &[u8],
     s: &[u8],
@@ -69,26 +58,9 @@ pub fn settle_due(
         left = left - (1 << (r as u64));
         let w = improve(ks, s, starts[r], r, model);
         names[r] = w.name;
-        if w.changed {
+        if w.cells {
             left = left | callers[r];
         }
     }
     names
-}
-
-// Leaves the rows of the least model. Gives the lowest name with a ring in each body, or NO_RING.
-pub fn settle(
-    ks: &[u8],
-    s: &[u8],
-    starts: &[usize],
-    callers: &[u64; MOST_ROUTINES],
-    model: &mut [u8],
-) -> [u8; MOST_ROUTINES]
-    requires { ⌜ CanSettle (now ks) (now s) (now starts) (now callers) (now model) ⌝ }
-    ensures { λ names. ⌜ Settled (now (ks .entry)) (now (s .entry)) (now (starts .entry)) (now (callers .entry))
-        (now (model .entry)) (now (model .exit)) names ⌝ }
-{
-    rows::clear(model, 0, ROW_BYTES * ks.len());
-    let mask = due::all(ks.len());
-    settle_due(ks, s, starts, callers, mask, model)
 }

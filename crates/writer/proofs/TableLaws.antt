@@ -12,7 +12,8 @@ use Rattle.table.specs.Program.{Program, params, body}
 use Rattle.order.specs.Standing.{HoldsAt}
 use Rattle.order.specs.Items.{itemsOf, flat, bodySizes}
 use Rattle.order.specs.laws.Items.{sizes-short}
-use Rattle.append.specs.Appending.{Appends, then, equal-text, nothing, same-size}
+use Rattle.append.specs.Appends.{Appends}
+use Rattle.append.specs.laws.Appending.{then, equal-text, nothing, same-size}
 use Rattle.order.specs.Standing.{ItemsAt}
 use Rattle.rewrite.specs.Writing.{writtenAll, BodyReady, BodyWritten, atStart}
 use Rattle.order.specs.Standing.{endOf}

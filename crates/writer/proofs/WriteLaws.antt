@@ -19,7 +19,8 @@ use Rattle.order.specs.Standing.{HoldsAt, HeldAt}
 use Rattle.order.specs.Items.{bodySizes}
 use Rattle.writer.specs.Answer.{short-output, longest-table}
 use Rattle.writer.specs.Contracts.{WritesAt}
-use Rattle.append.specs.Appending.{Appends, then, equal-text}
+use Rattle.append.specs.Appends.{Appends}
+use Rattle.append.specs.laws.Appending.{then, equal-text}
 use Rattle.order.specs.Ordering.{listOf, Ordered}
 use Rattle.writer.specs.Contracts.{texts, CanCount, CanWrite, BodiesWritten, Ready}
 use Rattle.writer.specs.Contracts.{TableWritten}

@@ -8,7 +8,7 @@ use Rattle.table.specs.Program.{Program, params, body}
 use Rattle.table.specs.Check.{accepted, checkTable}
 use Rattle.table.specs.WellFormed.{In}
 use Rattle.table.specs.laws.Sections.{Holds}
-use Rattle.append.specs.Appending.{Appends}
+use Rattle.append.specs.Appends.{Appends}
 use Rattle.canon.specs.Canonical.{order, position, canonicalTable}
 use Rattle.order.specs.Items.{itemsOf}
 use Rattle.order.specs.Standing.{HoldsAt}

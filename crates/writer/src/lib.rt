@@ -1,6 +1,6 @@
 // The writer of canonical tables: one way to write a table.
 ghost use Rattle.table.specs.laws.Sections.{Held, AcceptedAs};
-ghost use Rattle.append.specs.Appending.{Appends};
+ghost use Rattle.append.specs.Appends.{Appends};
 ghost use Rattle.order.specs.Standing.{HeldAt};
 ghost use Rattle.writer.specs.Answer.{Writes, WritesAs, Fits};
 ghost use Rattle.writer.specs.Contracts.{CanCount, countsOf, CanWrite, BodiesWritten, Ready, TableWritten};

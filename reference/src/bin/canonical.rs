@@ -8,7 +8,7 @@
 
 use std::env;
 use std::fs;
-use std::io::{self, Read, Write};
+use std::io::{self, Write};
 use std::path::Path;
 use std::process::ExitCode;
 
@@ -22,17 +22,6 @@ fn print(table: &[u8]) -> Result<(), String> {
     io::stdout()
         .write_all(&text(table))
         .map_err(|error| format!("standard output: {error}"))
-}
-
-/// The table on standard input.
-fn stdin() -> Result<Vec<u8>, String> {
-    let mut table = Vec::new();
-    io::stdin()
-        .lock()
-        .take(READ_LIMIT as u64)
-        .read_to_end(&mut table)
-        .map_err(|error| format!("standard input: {error}"))?;
-    Ok(table)
 }
 
 /// The table of a file of hexadecimal text.
@@ -57,7 +46,7 @@ fn random(folder: &str, seed: u64, count: u64) -> Result<(), String> {
 
 fn run(arguments: &[&str]) -> Result<(), String> {
     match arguments {
-        [] => print(&stdin()?),
+        [] => print(&command::stdin()?),
         ["--hex", file] => print(&hexadecimal(file)?),
         ["--random", folder, seed, count] => match (seed.parse(), count.parse()) {
             (Ok(seed), Ok(count)) => random(folder, seed, count),

@@ -21,9 +21,8 @@ use std::collections::BTreeMap;
 use std::process::ExitCode;
 
 use reference::archive;
-use reference::cases::{rules, worked};
 use reference::command;
-use reference::generate::{boundaries, random, Rng, KINDS};
+use reference::generate::{random, Rng, KINDS};
 use reference::limits::CHECK_ROUTINE;
 use reference::{check_number, hex};
 
@@ -134,10 +133,11 @@ mod analysis {
 
 /// What single rules change in the random tables.
 mod changes {
+    use reference::cases::Said;
     use reference::limits::ROW_BYTES;
     use reference::model::locks_passed_over;
     use reference::table::{read, Table};
-    use reference::{analyse_by, Answer, Rules, Verdict};
+    use reference::{analyse_by, Rules, Verdict};
 
     #[derive(Default)]
     pub struct Tally {
@@ -187,15 +187,15 @@ mod changes {
     }
 
     /// The answer and the model by these rules.
-    fn outcome(rules: Rules, bytes: &[u8], table: &Table) -> (Answer, Vec<u8>) {
+    fn outcome(rules: Rules, bytes: &[u8], table: &Table) -> (Said, Vec<u8>) {
         let mut model = vec![0; ROW_BYTES * table.routines.len()];
-        (analyse_by(rules, bytes, &mut model), model)
+        (Said::from(analyse_by(rules, bytes, &mut model)), model)
     }
 
-    fn verdict(answer: Answer) -> Option<Verdict> {
-        match answer {
-            Answer::Accepted { verdict, .. } => Some(verdict),
-            Answer::Refused(_) => None,
+    fn verdict(said: Said) -> Option<Verdict> {
+        match said {
+            Said::Accepted { verdict, .. } => Some(verdict),
+            Said::Refused(_) => None,
         }
     }
 
@@ -248,20 +248,9 @@ fn run(seed: u64, count: u64) -> Result<String, String> {
             .map_err(|how| format!("difference at {what}\n{how}\n{}", hex::text(table)))
     };
 
-    let worked = worked();
-    for case in &worked {
-        one(format!("worked case {}", case.name), &case.table)?;
-    }
-    let rules = rules();
-    for case in &rules {
-        one(format!("rule: {}", case.name), &case.table)?;
-    }
-    let boundaries = boundaries();
-    for boundary in &boundaries {
-        one(
-            format!("boundary table: {}", boundary.what),
-            &boundary.table,
-        )?;
+    let (fixed, fixed_count) = command::fixed();
+    for (what, table) in &fixed {
+        one(what.clone(), table)?;
     }
     let plain = plain(seed);
     for (index, table) in plain.iter().enumerate() {
@@ -293,10 +282,7 @@ fn run(seed: u64, count: u64) -> Result<String, String> {
         .map(|(number, times)| format!("{number}: {times}"))
         .collect();
     let mut summary = format!(
-        "no difference, seed {seed}: {} worked, {} rule, {} boundary, {} plain, {count} random ({}); accepted {}; refused {}",
-        worked.len(),
-        rules.len(),
-        boundaries.len(),
+        "no difference, seed {seed}: {fixed_count}, {} plain, {count} random ({}); accepted {}; refused {}",
         plain.len(),
         kinds.join(", "),
         tally.accepted,

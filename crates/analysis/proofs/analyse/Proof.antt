@@ -99,8 +99,8 @@ returns-3 c =
     let r = judged .judge .result in
     let j = judged .judge .ensures (t .program) (t .holds) (omega arith) in (
       judged-as (start .args .table .now) (start .args .model .now) (t .program) (t .accepts) (omega arith)
-          (judged .judge .last .1 .1 .0) (r .verdict) (r .share) (j .0),
-      j .1,
+          (judged .judge .last .1 .1 .0) (r .verdict) (r .share) (r .rounds) (j .0),
+      (j .1, j .2),
     )
 
 pub analyse-spec : {M : Type 1} → statement M

@@ -1,7 +1,7 @@
 -- `vangpear_analyse` meets its contract: it gives the number of what `analyse` answers.
 use mathlib.Core.Path.{sym, ap, _∙_}
 use Rattle.analysis.specs.Answer.{numberOf}
-use Rattle.analysis.proofs.AnalyseLaws.{short-verdict, small-refusal}
+use Rattle.analysis.proofs.AnalyseLaws.{short-judged, small-refusal}
 use borrow.Author.Needs.{needs}
 use Rattle.analysis.proofs.vangpear_analyse.Statement.{statement}
 use Rattle.analysis.proofs.vangpear_analyse.Tie as tie
@@ -16,7 +16,7 @@ verdict-number-requires : tie.Need-verdict-number-requires
 verdict-number-requires c κs =
     let r = c .before .before .before .before .before .analyse in
     let judged = c .before .v .given in
-    short-verdict (r .result) (judged .0 .0) (judged .0 .1 .0) (r .ensures .1) (judged .1)
+    short-judged (r .result) (judged .0 .0) (judged .0 .1 .0) (judged .0 .1 .1 .0) (r .ensures .1) (judged .1) .0
 
 cast-result : tie.Need-cast-result
 cast-result c = let h = c .verdict-number .ensures .1 in search needs

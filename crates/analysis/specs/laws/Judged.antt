@@ -13,15 +13,17 @@ use Rattle.analysis.specs.declared.Share.{Share}
 use Rattle.analysis.specs.declared.Verdict.{Verdict}
 use Rattle.analysis.specs.declared.Answer.the-variants.{Judged}
 
--- one answer is one verdict and one share
-judged-one : (P : Program) (before after : List ℕ) (v w : Verdict) (s t : Share) → Judged v s ≡ Judged w t
-    → JudgedAs P before after w t → JudgedAs P before after v s
-judged-one P before after v w s t e j =
+-- one answer is one verdict, one share and one number of rounds
+judged-one : (P : Program) (before after : List ℕ) (v w : Verdict) (s t : Share) (m n : ℕ) → Judged v s m ≡ Judged w t n
+    → JudgedAs P before after w t n → JudgedAs P before after v s m
+judged-one P before after v w s t m n e j =
     let ev : v ≡ w = cc in
     let es : s ≡ t = cc in
-    rw (ev, es) j
+    let em : m ≡ n = cc in
+    rw (ev, es, em) j
 
-module _ (table before after : List ℕ) (v : Verdict) (s : Share) (a : Analysed table before after (Judged v s)) where
+module _ (table before after : List ℕ) (v : Verdict) (s : Share) (m : ℕ)
+    (a : Analysed table before after (Judged v s m)) where
   -- the rows of the program fit the buffer
   pub judged-fits : (P : Program) → checkTable table ≡ accepted P → row-bytes * length P ≤ length before
   judged-fits P e = by (decLt (length before) (row-bytes * length P))
@@ -39,7 +41,7 @@ module _ (table before after : List ℕ) (v : Verdict) (s : Share) (a : Analysed
       by (accepted P) e = (P, e)
 
   -- what is left is the model of its program, as the answer says
-  pub judged-as : (P : Program) → checkTable table ≡ accepted P → JudgedAs P before after v s
+  pub judged-as : (P : Program) → checkTable table ≡ accepted P → JudgedAs P before after v s m
   judged-as P e =
       let j = a .judged P e (judged-fits P e) in
-      judged-one P before after v (j .0) s (j .1) (j .2) (j .3)
+      judged-one P before after v (j .0) s (j .1) m (j .2) (j .3) (j .4)

@@ -7,7 +7,7 @@ use Rattle.table.specs.Program.{Program}
 use Rattle.table.specs.laws.Sections.{Holds}
 use Rattle.settle.specs.Settle.{AllFresh}
 use Rattle.settle.specs.Bodies.{Known}
-use Rattle.analysis.specs.Answer.{Says, Shares, Short, JudgedAs}
+use Rattle.analysis.specs.Answer.{most-rounds, Says, Shares, Short, JudgedAs}
 use Rattle.analysis.specs.declared.Share.{Share}
 use Rattle.analysis.specs.declared.Verdict.{Verdict}
 
@@ -35,10 +35,10 @@ pub record CanJudgeKnown (ks s starts calls model : List ℕ) : Type 0 where
   pub long : row-bytes * length program ≤ length model
 
 -- the program that was surveyed is judged
-abbrev pub JudgesKnown : List ℕ → List ℕ → List ℕ → List ℕ → List ℕ → List ℕ → Verdict → Share → Type 0
-JudgesKnown ks s starts calls before after verdict share =
+abbrev pub JudgesKnown : List ℕ → List ℕ → List ℕ → List ℕ → List ℕ → List ℕ → Verdict → Share → ℕ → Type 0
+JudgesKnown ks s starts calls before after verdict share m =
     (P : Program) → Known P ks s starts calls → row-bytes * length P ≤ length before
-    → JudgedAs P before after verdict share × Short verdict
+    → JudgedAs P before after verdict share m × Short verdict × (m ≤ most-rounds)
 
 -- the sections hold a program whose rows fit the buffer
 pub record CanJudge (ks s model : List ℕ) : Type 0 where
@@ -47,7 +47,7 @@ pub record CanJudge (ks s model : List ℕ) : Type 0 where
   pub long : row-bytes * length program ≤ length model
 
 -- the program is judged
-abbrev pub Judges : List ℕ → List ℕ → List ℕ → List ℕ → Verdict → Share → Type 0
-Judges ks s before after verdict share =
+abbrev pub Judges : List ℕ → List ℕ → List ℕ → List ℕ → Verdict → Share → ℕ → Type 0
+Judges ks s before after verdict share m =
     (P : Program) → Holds P ks s → row-bytes * length P ≤ length before
-    → JudgedAs P before after verdict share × Short verdict
+    → JudgedAs P before after verdict share m × Short verdict × (m ≤ most-rounds)

@@ -25,9 +25,9 @@ pub record SharesBytes (P : Program) (model : List ℕ) (share : Share) : Type 0
 
 -- of a table that is accepted
 pub shares-bytes :
-    (table : List ℕ) (P : Program) (before after : List ℕ) (verdict : Verdict) (share : Share) → Bytes table
-    → checkTable table ≡ accepted P → JudgedAs P before after verdict share → SharesBytes P after share
-shares-bytes table P before after verdict share bytes accepts j =
+    (table : List ℕ) (P : Program) (before after : List ℕ) (verdict : Verdict) (share : Share) (m : ℕ)
+    → Bytes table → checkTable table ≡ accepted P → JudgedAs P before after verdict share m → SharesBytes P after share
+shares-bytes table P before after verdict share m bytes accepts j =
     record { shares = j .shares; zeros = count-map to from (j .shares .ringless) }
   where
     flag : (r : ℕ) → Reached P r → Flag (lastByte after r) ((x : ℕ) × Ring P r x)

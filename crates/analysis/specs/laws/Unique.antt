@@ -1,5 +1,5 @@
 -- The contract of the analysis leaves nothing free: two answers to one table, and the two buffers left, are equal. So
--- are the launcher's numbers, and a number tells its answer but for the share.
+-- are the launcher's numbers; a number tells its answer but for the share and the rounds.
 use mathlib.Core.Path.{_≡_, refl, sym, ap, _∙_}
 use mathlib.Core.Logic.{_⊎_, inl, inr}
 use mathlib.Core.List.{List}
@@ -15,6 +15,7 @@ use Rattle.rules.specs.Label.{Label, own, unknown, several}
 use Rattle.rules.specs.Model.{Row, Ring}
 use Rattle.rules.specs.laws.Verdict.{ring-at-unique, clear-no-ring}
 use Rattle.rules.specs.laws.Share.{share-unique}
+use Rattle.rounds.specs.laws.Steps.{rounds-unique}
 use Rattle.analysis.specs.declared.Share.{Share}
 use Rattle.analysis.specs.declared.Verdict.{Verdict}
 use Rattle.analysis.specs.declared.Verdict.the-variants.{Clear as SaysClear, Ring as SaysRing}
@@ -22,7 +23,7 @@ use Rattle.analysis.specs.declared.Answer.{Answer}
 use Rattle.analysis.specs.declared.Answer.the-variants.{Judged, Refused}
 use Rattle.table.specs.Constants.{row-bytes}
 use Rattle.analysis.specs.Answer.{Flag, CellOf, Models, Says, Shares, JudgedAs, Analysed, Fits}
-use Rattle.analysis.specs.Answer.{numberOf, AnalysedAs}
+use Rattle.analysis.specs.Answer.{most-rounds, numberOf, AnalysedAs, roundsNumber, RoundsAs}
 
 -- a fact has one flag
 pub flag-unique : (v w : ℕ) (Q : Type 0) → Flag v Q → Flag w Q → v ≡ w
@@ -87,9 +88,9 @@ shares-unique P s t p q =
 
 -- what is left of one buffer is one buffer
 pub judged-unique :
-    (P : Program) (before after after′ : List ℕ) (v w : Verdict) (s t : Share)
-    → JudgedAs P before after v s → JudgedAs P before after′ w t → after ≡ after′
-judged-unique P before after after′ v w s t p q =
+    (P : Program) (before after after′ : List ℕ) (v w : Verdict) (s t : Share) (m n : ℕ)
+    → JudgedAs P before after v s m → JudgedAs P before after′ w t n → after ≡ after′
+judged-unique P before after after′ v w s t m n p q =
     ext-getD 0 after after′ (p .same-length ∙ sym (q .same-length)) (λ i h. go i (decLt i (row-bytes * length P)))
   where
     go : (i : ℕ) → Dec (i < row-bytes * length P) → getD after i 0 ≡ getD after′ i 0
@@ -108,10 +109,11 @@ analysed-unique table before after after′ answer answer′ p q = by (checkTabl
     judged P e h =
         let x = p .judged P e h in
         let y = q .judged P e h in
-        let verdicts = verdict-unique P (x .0) (y .0) (x .3 .says) (y .3 .says) in
-        let shares = shares-unique P (x .1) (y .1) (x .3 .shares) (y .3 .shares) in (
-          judged-unique P before after after′ (x .0) (y .0) (x .1) (y .1) (x .3) (y .3),
-          cc (x .2, y .2, verdicts, shares),
+        let verdicts = verdict-unique P (x .0) (y .0) (x .4 .says) (y .4 .says) in
+        let shares = shares-unique P (x .1) (y .1) (x .4 .shares) (y .4 .shares) in
+        let rounds = rounds-unique P (x .2) (y .2) (x .4 .rounds) (y .4 .rounds) in (
+          judged-unique P before after after′ (x .0) (y .0) (x .1) (y .1) (x .2) (y .2) (x .4) (y .4),
+          cc (x .3, y .3, verdicts, shares, rounds),
         )
 
     sized : (P : Program) → checkTable table ≡ accepted P → Dec (length before < row-bytes * length P)
@@ -137,32 +139,52 @@ number-unique table before after after′ n m p q =
     let same = analysed-unique table before after after′ (p .0) (q .0) (p .2) (q .2) in
     (same .0, p .1 ∙ ap numberOf (same .1) ∙ sym (q .1))
 
--- two answers are the same, but for the share
-abbrev pub SameButShare : Answer → Answer → Type 0
-SameButShare (Judged v s) (Judged w t) = v ≡ w
-SameButShare (Judged v s) (Refused y) = ⊥
-SameButShare (Refused x) (Judged w t) = ⊥
-SameButShare (Refused x) (Refused y) = x ≡ y
+-- two answers are the same in their verdict
+abbrev pub SameVerdict : Answer → Answer → Type 0
+SameVerdict (Judged v s m) (Judged w t n) = v ≡ w
+SameVerdict (Judged v s m) (Refused y) = ⊥
+SameVerdict (Refused x) (Judged w t n) = ⊥
+SameVerdict (Refused x) (Refused y) = x ≡ y
 
--- the launcher's number tells the answer, but for the share
-pub number-tells : (a b : Answer) → Fits a → Fits b → numberOf a ≡ numberOf b → SameButShare a b
-number-tells (Judged SaysClear s) (Judged SaysClear t) f g e = refl
-number-tells (Judged SaysClear s) (Judged (SaysRing y) t) f g e = absurd (omega arith)
-number-tells (Judged SaysClear s) (Refused y) f g e = let l = g .0 in absurd (omega arith)
-number-tells (Judged (SaysRing x) s) (Judged SaysClear t) f g e = absurd (omega arith)
-number-tells (Judged (SaysRing x) s) (Judged (SaysRing y) t) f g e =
-    let l = f .1 in
-    let m = g .1 in
+-- the launcher's number tells the answer, but for the share and the rounds
+pub number-tells : (a b : Answer) → Fits a → Fits b → numberOf a ≡ numberOf b → SameVerdict a b
+number-tells (Judged SaysClear s m) (Judged SaysClear t n) f g e = refl
+number-tells (Judged SaysClear s m) (Judged (SaysRing y) t n) f g e = absurd (omega arith)
+number-tells (Judged SaysClear s m) (Refused y) f g e = let l = g .0 in absurd (omega arith)
+number-tells (Judged (SaysRing x) s m) (Judged SaysClear t n) f g e = absurd (omega arith)
+number-tells (Judged (SaysRing x) s m) (Judged (SaysRing y) t n) f g e =
+    let l = f .0 .1 in
+    let k = g .0 .1 in
     let r : x .routine ≡ y .routine = omega arith in
-    let n : x .name ≡ y .name = omega arith in
-    λ i. SaysRing (record { routine = r i; name = n i })
-number-tells (Judged (SaysRing x) s) (Refused y) f g e = let l = g .1 in absurd (omega arith)
-number-tells (Refused x) (Judged SaysClear t) f g e = let l = f .0 in absurd (omega arith)
-number-tells (Refused x) (Judged (SaysRing y) t) f g e = let l = f .1 in absurd (omega arith)
+    let e′ : x .name ≡ y .name = omega arith in
+    λ i. SaysRing (record { routine = r i; name = e′ i })
+number-tells (Judged (SaysRing x) s m) (Refused y) f g e = let l = g .1 in absurd (omega arith)
+number-tells (Refused x) (Judged SaysClear t n) f g e = let l = f .0 in absurd (omega arith)
+number-tells (Refused x) (Judged (SaysRing y) t n) f g e = let l = f .1 in absurd (omega arith)
 number-tells (Refused x) (Refused y) f g e = e
 
 -- it is 0 to 15 or, of a ring, 65,536 and more, and at most that of routine 63 and name 15
 pub number-few : (a : Answer) → Fits a → (numberOf a ≤ 15) ⊎ ((65536 ≤ numberOf a) × (numberOf a ≤ 130528))
-number-few (Judged SaysClear s) f = inl (omega arith)
-number-few (Judged (SaysRing x) s) f = let l = f .0 in let m = f .1 in inr (omega arith, omega arith)
+number-few (Judged SaysClear s m) f = inl (omega arith)
+number-few (Judged (SaysRing x) s m) f = let l = f .0 .0 in let k = f .0 .1 in inr (omega arith, omega arith)
 number-few (Refused e) f = inl (f .1)
+
+-- the numbers of rounds are equal too, and the same model is left as where the verdict is asked for
+pub rounds-number-unique :
+    (table before after after′ : List ℕ) (n m : ℕ) → RoundsAs table before after n → RoundsAs table before after′ m
+    → (after ≡ after′) × (n ≡ m)
+rounds-number-unique table before after after′ n m p q =
+    let same = analysed-unique table before after after′ (p .0) (q .0) (p .2) (q .2) in
+    (same .0, p .1 ∙ ap roundsNumber (same .1) ∙ sym (q .1))
+
+pub same-model :
+    (table before after after′ : List ℕ) (n m : ℕ) → AnalysedAs table before after n → RoundsAs table before after′ m
+    → after ≡ after′
+same-model table before after after′ n m p q =
+    analysed-unique table before after after′ (p .0) (q .0) (p .2) (q .2) .0
+
+-- it is 1 to 15 or 65,536 and more, and at most that of the most rounds
+pub rounds-number-few : (a : Answer) → Fits a
+    → (roundsNumber a ≤ 15) ⊎ ((65536 ≤ roundsNumber a) × (roundsNumber a ≤ 65536 + most-rounds))
+rounds-number-few (Judged v s m) f = let l = f .1 in inr (omega arith, omega arith)
+rounds-number-few (Refused e) f = inl (f .1)

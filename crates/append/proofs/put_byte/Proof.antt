@@ -1,6 +1,6 @@
 -- `put_byte` meets its contract: past the end of the buffer a store would change nothing.
 use native.Mathlib.Omega.{arith}
-use Rattle.append.specs.Appending.{stored, left-out}
+use Rattle.append.specs.laws.Appending.{stored, left-out}
 use borrow.Author.Needs.{needs}
 use Rattle.append.proofs.put_byte.Statement.{statement}
 use Rattle.append.proofs.put_byte.Tie as tie

@@ -23,9 +23,9 @@ list-judged-requires c κs =
     let start = analysed .before .before .before .before in
     let h = analysed .analyse .ensures in
     let e = judged .verdict .given .1 in
-    let few = judged-few _ _ _ _ (h .0) _ _ (λ i. omega (arith, start .shared-slice-known .given i)) e in
-    let small = judged-small _ _ _ _ (h .0) _ _ (λ i. omega (arith, start .shared-slice-known .given i)) e in
-    (omega (arith, few, c .before .routines .ensures .0), subst Fits e (h .1), small)
+    let few = judged-few _ _ _ _ (h .0) _ _ _ (λ i. omega (arith, start .shared-slice-known .given i)) e in
+    let small = judged-small _ _ _ _ (h .0) _ _ _ (λ i. omega (arith, start .shared-slice-known .given i)) e in
+    (omega (arith, few, c .before .routines .ensures .0), subst Fits e (h .1) .0, small)
 
 enum-known-e : tie.Need-enum-known-e
 enum-known-e c = search needs

@@ -1,6 +1,6 @@
 -- `list_judged` meets its contract: the first line, the pairs, the share and the verdict, one after the other.
 use native.Mathlib.Omega.{arith}
-use Rattle.append.specs.Appending.{then}
+use Rattle.append.specs.laws.Appending.{then}
 use borrow.Author.Needs.{needs}
 use Rattle.listing.proofs.list_judged.Statement.{statement}
 use Rattle.listing.proofs.list_judged.Tie as tie

@@ -5,7 +5,8 @@ use Prim.Native.Nat.{ℕ, suc, _+_}
 use native.Mathlib.Numerals.{add-one}
 use lib.ListN.{length, set}
 use lib.Seq.{sets, drop-nil}
-use Rattle.append.specs.Appending.{Appends, nothing, then, equal-text}
+use Rattle.append.specs.Appends.{Appends}
+use Rattle.append.specs.laws.Appending.{nothing, then, equal-text}
 use Rattle.listing.specs.Text.{over, each}
 
 sets-nil : (w : List ℕ) (at : ℕ) → sets [] at w ≡ []

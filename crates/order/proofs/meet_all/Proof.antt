@@ -4,6 +4,7 @@ use mathlib.Core.Logic.{⊎-elim}
 use Prim.Native.Nat.{_-_}
 use native.Mathlib.Omega.{arith}
 use Rattle.order.specs.Ordering.{orderOf}
+use Rattle.order.specs.laws.Standing.{passable}
 use Rattle.order.proofs.OrderLaws.{listed-bytes}
 use Rattle.order.proofs.MeetLaws.{Meeting, meeting-start, meeting-end, any-item, item-here, routine-here}
 use Rattle.order.proofs.MeetLaws.{meeting-on, meeting-less, counts-fit, Stepped, stepped-call, stepped-other}
@@ -71,8 +72,8 @@ past-requires c κs =
     let a = start .args in
     let o = orderOf (a .routines .now) (a .places .now) (a .f .count) (a .f .bytes) in
     let v = orderOf (l .routines) (l .places) (l .count) (l .bytes) in
-    let n = start .pre .section in
-    (any-item (a .ks .now) (a .s .now) (a .at) (a .end) o (l .i) v (l .inv) (omega arith) (start .pre), omega arith)
+    passable (a .ks .now) (a .s .now) (l .i)
+    (any-item (a .ks .now) (a .s .now) (a .at) (a .end) o (l .i) v (l .inv) (omega arith) (start .pre))
 
 shared-slice-read-kept-bytes : tie.Need-shared-slice-read-kept-bytes Inv-loop μ-loop
 shared-slice-read-kept-bytes c =
@@ -94,7 +95,7 @@ sub-kept-bytes c =
     let a = start .args in
     let o = orderOf (a .routines .now) (a .places .now) (a .f .count) (a .f .bytes) in
     let v = orderOf (l .routines) (l .places) (l .count) (l .bytes) in
-    let h = meeting-less (a .ks .now) (a .s .now) (a .at) (a .end) o (l .i) v (l .inv) (omega arith) _
+    let h = meeting-less (a .ks .now) (a .s .now) (a .at) (a .end) o (l .i) v (l .inv) (omega arith) (start .pre) _
     (passed .ensures) in
     search needs
 
@@ -120,8 +121,8 @@ add-bytes c =
     (stepped-call (a .ks .now) (a .s .now) (l .i) v _ (search needs) (q .4 .ensures (l .bytes))))
     (λ q. rw (q .1, q .2, q .3) (stepped-other (a .ks .now) (a .s .now) (l .i) v (search needs) (l .inv .listed)))
     (met .came) in
-    let h = counts-fit (a .ks .now) (a .s .now) (a .at) (a .end) o (l .i) v (l .inv) (omega arith) _ (passed .ensures)
-    (start .pre) w stepped in
+    let h = counts-fit (a .ks .now) (a .s .now) (a .at) (a .end) o (l .i) v (l .inv) (omega arith) (start .pre) _
+    (passed .ensures) w stepped in
     search needs
 
 loop-less : tie.Need-loop-less Inv-loop μ-loop
@@ -134,7 +135,7 @@ loop-less c =
     let a = start .args in
     let o = orderOf (a .routines .now) (a .places .now) (a .f .count) (a .f .bytes) in
     let v = orderOf (l .routines) (l .places) (l .count) (l .bytes) in
-    let h = meeting-less (a .ks .now) (a .s .now) (a .at) (a .end) o (l .i) v (l .inv) (omega arith) _
+    let h = meeting-less (a .ks .now) (a .s .now) (a .at) (a .end) o (l .i) v (l .inv) (omega arith) (start .pre) _
     (passed .ensures) in
     omega arith
 
@@ -157,7 +158,8 @@ loop-again c =
     (λ q. rw (q .1, q .2, q .3) (stepped-other (a .ks .now) (a .s .now) (l .i) v (search needs) (l .inv .listed)))
     (met .came) in
     rw (c .kept-bytes .ensures)
-    (meeting-on (a .ks .now) (a .s .now) (a .at) (a .end) o (l .i) v (l .inv) (omega arith) _ (passed .ensures) w stepped)
+    (meeting-on (a .ks .now) (a .s .now) (a .at) (a .end) o (l .i) v (l .inv) (omega arith) (start .pre) _
+    (passed .ensures) w stepped)
 
 returns : tie.Need-returns Inv-loop μ-loop
 returns c =

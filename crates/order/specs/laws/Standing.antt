@@ -9,6 +9,7 @@ use lib.ListN.{length, getD, take, drop, length-drop, length-append, List·getD-
 use lib.Seq.{getD-drop, drop-drop, take-append-seam, length-take-le}
 use native.Mathlib.Decide.{ℕ-discrete}
 use Rattle.table.specs.laws.Lists.{getD-in}
+use Rattle.pairs.specs.Walks.{Passable, pastItem}
 use Rattle.order.specs.Items.{Item, mark, making, mirroring, locking, calling, itemBytes}
 use Rattle.order.specs.Standing.{ItemAt, SomeItem, AnyItem, NameAt, CallAt, callHere, itemAt}
 
@@ -138,13 +139,13 @@ module _ (ks s : List ℕ) (at : ℕ) where
 
 -- how long the item is, by its code
 module _ (ks s : List ℕ) (at : ℕ) where
-  pub long-lock : getD s at 0 ≡ 2 → length (itemBytes (itemAt ks s at)) ≡ 2
+  long-lock : getD s at 0 ≡ 2 → length (itemBytes (itemAt ks s at)) ≡ 2
   long-lock e = rw (item-lock ks s at e) refl
 
-  pub long-mirror : getD s at 0 ≡ 7 → length (itemBytes (itemAt ks s at)) ≡ 2
+  long-mirror : getD s at 0 ≡ 7 → length (itemBytes (itemAt ks s at)) ≡ 2
   long-mirror e = rw (item-mirror ks s at e) refl
 
-  pub long-call : AnyItem ks s at → getD s at 0 ≡ 6
+  long-call : AnyItem ks s at → getD s at 0 ≡ 6
       → length (itemBytes (itemAt ks s at)) ≡ 2 + getD ks (getD s (at + 1) 0) 0
   long-call i e =
       let c = at-call ks s at (i .0) ks (omega arith) (i .1) e in
@@ -154,9 +155,30 @@ module _ (ks s : List ℕ) (at : ℕ) where
       length-take-le k (drop (at + 2) s) (rw (length-drop (at + 2) s) (omega arith)) in
       rw (item-call ks s at e) (omega arith)
 
-  pub long-rest : getD s at 0 ≢ 2 → getD s at 0 ≢ 7 → getD s at 0 ≢ 6 → length (itemBytes (itemAt ks s at)) ≡ 1
+  long-rest : getD s at 0 ≢ 2 → getD s at 0 ≢ 7 → getD s at 0 ≢ 6 → length (itemBytes (itemAt ks s at)) ≡ 1
   long-rest a b c = go (ℕ-discrete (getD s at 0) 1)
     where
       go : Dec (getD s at 0 ≡ 1) → length (itemBytes (itemAt ks s at)) ≡ 1
       go (yes e) = rw (item-new ks s at e) refl
       go (no n) = rw (item-mark ks s at n b a c) refl
+
+-- the item can be passed, and the offset past it
+module _ (ks s : List ℕ) (at : ℕ) where
+  pub passable : AnyItem ks s at → Passable ks s at
+  passable i = record {
+    here = item-there ks s at (i .0) (i .1);
+    routine = λ e. let c = at-call ks s at (i .0) ks (omega arith) (i .1) e in (c .there, c .routine);
+  }
+
+  pub past-item : AnyItem ks s at → pastItem ks s at ≡ at + length (itemBytes (itemAt ks s at))
+  past-item i = elim (ℕ-discrete (getD s at 0) 2) [
+    | yes e ↦ let h = long-lock ks s at e in rw e (omega (arith, h))
+    | no a ↦ elim (ℕ-discrete (getD s at 0) 7) [
+      | yes e ↦ let h = long-mirror ks s at e in rw e (omega (arith, h))
+      | no b ↦ elim (ℕ-discrete (getD s at 0) 6) [
+        | yes e ↦ let h = long-call ks s at i e in rw e (omega (arith, h))
+        | no c ↦ let h = long-rest ks s at a b c in
+            rw (ne-eqb (getD s at 0) 2 a, ne-eqb (getD s at 0) 7 b, ne-eqb (getD s at 0) 6 c) (omega (arith, h))
+      ]
+    ]
+  ]

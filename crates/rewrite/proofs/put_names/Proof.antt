@@ -2,7 +2,8 @@
 use mathlib.Core.Path.{_≡_}
 use Prim.Native.Nat.{_+_, _-_, _≤_}
 use native.Mathlib.Omega.{arith}
-use Rattle.append.specs.Appending.{Appends, nothing, same-size}
+use Rattle.append.specs.Appends.{Appends}
+use Rattle.append.specs.laws.Appending.{nothing, same-size}
 use Rattle.rewrite.specs.Writing.{newNames}
 use Rattle.rewrite.proofs.TextLaws.{names-more, names-all}
 use borrow.Author.Needs.{needs}

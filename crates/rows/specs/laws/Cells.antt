@@ -6,7 +6,7 @@ use native.Mathlib.Decide.{decLt}
 use native.Mathlib.Omega.{arith}
 use mathlib.Core.List.{List}
 use lib.ListN.{getD}
-use Rattle.table.specs.Constants.{row-names, row-bytes}
+use Rattle.table.specs.Constants.{row-names, row-cells, row-bytes}
 use Rattle.rules.specs.Label.{Label, own, forked, unknown, several}
 use Rattle.grid.specs.laws.Masks.{has-zero}
 use Rattle.rows.specs.Bytes.{Labelled, RowsOf}
@@ -27,9 +27,9 @@ apart q r i ne l = go (decLt q r)
     go (yes lt) = inl (omega arith)
     go (no n) = let m : r < q = omega arith in inr (omega arith)
 
--- a row whose bytes are the same has the same pairs
+-- a row whose cells are the same has the same pairs
 pub row-moves : (n : ℕ) (before after : List ℕ) (q a b : ℕ) (l : Label)
-    → ((i : ℕ) → i < row-bytes → getD after (row-bytes * q + i) 0 ≡ getD before (row-bytes * q + i) 0)
+    → ((i : ℕ) → i < row-cells → getD after (row-bytes * q + i) 0 ≡ getD before (row-bytes * q + i) 0)
     → RowsOf n before q a b l → RowsOf n after q a b l
 row-moves n before after q a b l same w =
     let e : row-bytes * q + (row-names * a + b) ≡ row-bytes * q + row-names * a + b = omega arith in

@@ -1,5 +1,5 @@
--- `settle_due` meets its contract: at each turn a routine that is due becomes fresh, and where its row changed its
--- callers become due. The room for bits falls with each change, and the mask with each other turn.
+-- `settle_due` meets its contract: at each turn a routine that is due becomes fresh, and where a cell of it changed
+-- its callers become due. The room for bits falls with each change, and the mask with each other turn.
 use mathlib.Core.Path.{refl}
 use native.Mathlib.Omega.{arith}
 use Prim.Native.Nat.{_-_, _*_, _%_, _^_}
@@ -131,7 +131,8 @@ loop-less c =
     (l .model) (l .names) (l .left) (l .last) (d .result) (l .inv) (d .ensures) f p in
     less-then (a .ks .now) (a .s .now) (a .starts .now) (a .callers .now) (a .mask) (a .model .now)
     (l .model) (l .names) (l .left) (l .last) (d .result) (l .inv) (d .ensures) f
-    (w .last .1 .1 .1 .1 .0) (w .result .changed) (w .result .name) (w .ensures) (w .kept .1 .1 .1 .1 .0) p (c
+    (w .last .1 .1 .1 .1 .0) (w .result .cells) (w .result .last) (w .result .name) (w .ensures)
+    (w .kept .1 .1 .1 .1 .0) p (c
     .before .if1 .taken) (λ i. omega (arith, c .before .before .slice-known2 .given i)) _
     (omega (
       arith,
@@ -152,7 +153,8 @@ loop-again c =
     let f = few-routines (a .ks .now) (a .s .now) (a .starts .now) (a .callers .now) (a .mask) (a .model .now) p in
     turn-changed (a .ks .now) (a .s .now) (a .starts .now) (a .callers .now) (a .mask) (a .model .now)
     (l .model) (l .names) (l .left) (l .last) (d .result) (l .inv) (d .ensures) f
-    (w .last .1 .1 .1 .1 .0) (w .result .changed) (w .result .name) (w .ensures) (w .kept .1 .1 .1 .1 .0) p
+    (w .last .1 .1 .1 .1 .0) (w .result .cells) (w .result .last) (w .result .name) (w .ensures)
+    (w .kept .1 .1 .1 .1 .0) p
 
 loop-less-2 : tie.Need-loop-less-2 Inv-loop μ-loop
 loop-less-2 c =
@@ -166,8 +168,9 @@ loop-less-2 c =
     let f = few-routines (a .ks .now) (a .s .now) (a .starts .now) (a .callers .now) (a .mask) (a .model .now) p in
     less-else (a .ks .now) (a .s .now) (a .starts .now) (a .callers .now) (a .mask) (a .model .now)
     (l .model) (l .names) (l .left) (l .last) (d .result) (l .inv) (d .ensures) f
-    (w .last .1 .1 .1 .1 .0) (w .result .changed) (w .result .name) (w .ensures) (w .kept .1 .1 .1 .1 .0) p (c .if1
-    .left)
+    (w .last .1 .1 .1 .1 .0) (w .result .cells) (w .result .last) (w .result .name) (w .ensures)
+    (w .kept .1 .1 .1 .1 .0) p (c .if1
+    .left) (λ i. omega (arith, c .before .slice-known2 .given i))
 
 loop-again-2 : tie.Need-loop-again-2 Inv-loop μ-loop
 loop-again-2 c =
@@ -181,7 +184,8 @@ loop-again-2 c =
     let f = few-routines (a .ks .now) (a .s .now) (a .starts .now) (a .callers .now) (a .mask) (a .model .now) p in
     turn-same (a .ks .now) (a .s .now) (a .starts .now) (a .callers .now) (a .mask) (a .model .now)
     (l .model) (l .names) (l .left) (l .last) (d .result) (l .inv) (d .ensures) f
-    (w .last .1 .1 .1 .1 .0) (w .result .changed) (w .result .name) (w .ensures) (w .kept .1 .1 .1 .1 .0) p (c .if1
+    (w .last .1 .1 .1 .1 .0) (w .result .cells) (w .result .last) (w .result .name) (w .ensures)
+    (w .kept .1 .1 .1 .1 .0) p (c .if1
     .left)
 
 same-length : tie.Need-same-length Inv-loop μ-loop

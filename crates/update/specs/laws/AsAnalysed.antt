@@ -30,19 +30,19 @@ use Rattle.update.specs.laws.Unique.{by-answer}
 
 -- a model that the analysis wrote is brought to the one that it writes
 pub as-analysed :
-    (old new : List ℕ) (r : ℕ) (first before after after′ : List ℕ) (v w : Verdict) (s t : Share) → Bytes old
-    → Analysed old first before (Judged v s) → Replaced old new r before after Done
-    → Analysed new before after′ (Judged w t) → after ≡ after′
-as-analysed old new r first before after after′ v w s t bytes a u b =
+    (old new : List ℕ) (r : ℕ) (first before after after′ : List ℕ) (v w : Verdict) (s t : Share) (m n : ℕ) → Bytes old
+    → Analysed old first before (Judged v s m) → Replaced old new r before after Done
+    → Analysed new before after′ (Judged w t n) → after ≡ after′
+as-analysed old new r first before after after′ v w s t m n bytes a u b =
     by-answer P Q r before (same? after after′)
     (λ n. absurd (let x = c .refused-other n .0 in let z : _≡_ {A = ℕ} 0 1 = cc in omega arith))
     (λ o n. absurd (let x = c .refused-model o n .0 in let z : _≡_ {A = ℕ} 0 1 = cc in omega arith)) same
   where
     p : (P : Program) × (checkTable old ≡ accepted P)
-    p = judged-program old first before v s a
+    p = judged-program old first before v s m a
 
     q : (Q : Program) × (checkTable new ≡ accepted Q)
-    q = judged-program new before after′ w t b
+    q = judged-program new before after′ w t n b
 
     P : Program
     P = p .0
@@ -50,15 +50,15 @@ as-analysed old new r first before after after′ v w s t bytes a u b =
     Q : Program
     Q = q .0
 
-    judged : JudgedAs P first before v s
-    judged = judged-as old first before v s a P (p .1)
+    judged : JudgedAs P first before v s m
+    judged = judged-as old first before v s m a P (p .1)
 
-    anew : JudgedAs Q before after′ w t
-    anew = judged-as new before after′ w t b Q (q .1)
+    anew : JudgedAs Q before after′ w t n
+    anew = judged-as new before after′ w t n b Q (q .1)
 
     c : Compared P Q r before after Done
     c =
-        let l = judged-fits old first before v s a P (p .1) in
+        let l = judged-fits old first before v s m a P (p .1) in
         let e = judged .same-length in
         u .compared P Q (p .1) (q .1) (omega arith)
 
@@ -84,12 +84,12 @@ as-analysed old new r first before after after′ v w s t bytes a u b =
 
 -- and it is never refused for the model: where the tables differ in that body at most, the answer is done
 pub own-done :
-    (old new : List ℕ) (r : ℕ) (first before after : List ℕ) (v : Verdict) (s : Share) (answer : Updated) → Bytes old
-    → Analysed old first before (Judged v s) → Replaced old new r before after answer → (P Q : Program)
+    (old new : List ℕ) (r : ℕ) (first before after : List ℕ) (v : Verdict) (s : Share) (m : ℕ) (answer : Updated)
+    → Bytes old → Analysed old first before (Judged v s m) → Replaced old new r before after answer → (P Q : Program)
     → checkTable old ≡ accepted P → checkTable new ≡ accepted Q → OnlyBody P Q r → answer ≡ Done
-own-done old new r first before after v s answer bytes a u P Q e f only =
-    let fit = judged-fits old first before v s a P e in
-    let judged = judged-as old first before v s a P e in
+own-done old new r first before after v s m answer bytes a u P Q e f only =
+    let fit = judged-fits old first before v s m a P e in
+    let judged = judged-as old first before v s m a P e in
     let long = judged .same-length in
     u .compared P Q e f (omega arith) .done only
     (own-formed P (sound old P bytes e .1) before (judged .model)) .0

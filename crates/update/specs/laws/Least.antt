@@ -42,8 +42,8 @@ module _ (P : Program) (r : ℕ) (before after : List ℕ) (up : UpToDateFrom P 
   -- the rows of the other routines are as they were
   pub given-stays : (q a b : ℕ) (l : Label) → ¬ Touched P r q → Left q a b l ↔ Given q a b l
   given-stays q a b l n = (
-    λ w. row-moves (length P) after before q a b l (λ i h. sym (up .others q i (w .0) n h)) w,
-    λ w. row-moves (length P) before after q a b l (λ i h. up .others q i (w .0) n h) w,
+    λ w. row-moves (length P) after before q a b l (λ i h. sym (up .others q i (w .0) n (omega arith))) w,
+    λ w. row-moves (length P) before after q a b l (λ i h. up .others q i (w .0) n (omega arith)) w,
   )
 
   -- the row of a routine that reaches r has the least pairs

@@ -34,7 +34,7 @@ module _ (P : Program) (r : ℕ) (before after : List ℕ) (u : Reworked P r bef
   kept q i h n l = u .partly .others q i h (λ b. n (u .touched .to q b)) l
 
   has-given : (q a b : ℕ) (l : Label) → ¬ Touched P r q → G q a b l → R q a b l
-  has-given q a b l n w = row-moves (length P) before after q a b l (λ i h. kept q i (w .0) n h) w
+  has-given q a b l n w = row-moves (length P) before after q a b l (λ i h. kept q i (w .0) n (omega arith)) w
 
   current : (q a b : ℕ) (l : Label) → Touched P r q → RowOf P (Derived P R) q a b l → R q a b l
   current q a b l t w =

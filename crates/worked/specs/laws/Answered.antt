@@ -39,7 +39,8 @@ rows-long n c =
 
 -- the answer and the buffer of a worked table that has n routines
 pub record Answers (c : Case) (n : ℕ) (after : List ℕ) (answer : Answer) : Type 0 where
-  pub judged : answer ≡ Judged (c .verdict) (c .share)
+  pub rounds : ℕ
+  pub judged : answer ≡ Judged (c .verdict) (c .share) rounds
   pub rows : take (row-bytes * n) after ≡ rowsOf n c
 
 -- where an entry holds, the contract gives its verdict, its share and its rows
@@ -49,10 +50,11 @@ answers :
     → Analysed (c .table) before after answer → Answers c (length P) after answer
 answers c h P e before after answer l p =
     record {
+      rounds = w .2;
       judged = cc (
-        w .2,
-        verdict-unique P (w .0) (c .verdict) (w .3 .says) says,
-        shares-unique P (w .1) (c .share) (w .3 .shares) shares,
+        w .3,
+        verdict-unique P (w .0) (c .verdict) (w .4 .says) says,
+        shares-unique P (w .1) (c .share) (w .4 .shares) shares,
       );
       rows =
           ext-getD 0 (take (row-bytes * length P) after) (rowsOf (length P) c) (long ∙ sym (rows-long (length P) c)) at;
@@ -70,11 +72,11 @@ answers c h P e before after answer l p =
     models : Models P (rowsOf (length P) c)
     models = rw same at (h .models)
 
-    w : (v : Verdict) × (s : Share) × (answer ≡ Judged v s) × JudgedAs P before after v s
+    w : (v : Verdict) × (s : Share) × (m : ℕ) × (answer ≡ Judged v s m) × JudgedAs P before after v s m
     w = p .judged P e l
 
     long : length (take (row-bytes * length P) after) ≡ row-bytes * length P
-    long = length-take-le (row-bytes * length P) after (let k = w .3 .same-length in omega arith)
+    long = length-take-le (row-bytes * length P) after (let k = w .4 .same-length in omega arith)
 
     at :
         (i : ℕ) → i < length (take (row-bytes * length P) after)
@@ -82,7 +84,7 @@ answers c h P e before after answer l p =
     at i k =
         let k′ : i < row-bytes * length P = rw long at k in
         getD-take (row-bytes * length P) after i 0 k′
-        ∙ models-unique P after (rowsOf (length P) c) (w .3 .model) models i k′
+        ∙ models-unique P after (rowsOf (length P) c) (w .4 .model) models i k′
 
 -- every worked table, where the buffer is long enough, gets its verdict and its share, and leaves its rows in the buffer
 pub every-answer :

@@ -32,20 +32,20 @@ goes-on P s safe = by (safe .goes-on)
 
 -- where the answer is clear: after every list of turns there is no circle, and the run goes on unless all have ended
 pub never-sticks :
-    (table before after : List ℕ) (P : Program) (share : Share) → checkTable table ≡ accepted P
-    → row-bytes * length P ≤ length before → Analysed table before after (Judged Clear share) → (turns : List Turn)
+    (table before after : List ℕ) (P : Program) (share : Share) (m : ℕ) → checkTable table ≡ accepted P
+    → row-bytes * length P ≤ length before → Analysed table before after (Judged Clear share m) → (turns : List Turn)
     → (¬ Circle (run P (start P) turns)) × GoesOn P (run P (start P) turns)
-never-sticks table before after P share e l p turns =
+never-sticks table before after P share m e l p turns =
     (safe .no-circle, goes-on P (run P (start P) turns) safe)
   where
-    w : (v : Verdict) × (s : Share) × (Judged Clear share ≡ Judged v s) × JudgedAs P before after v s
+    w : (v : Verdict) × (s : Share) × (n : ℕ) × (Judged Clear share m ≡ Judged v s n) × JudgedAs P before after v s n
     w = p .judged P e l
 
     clear : w .0 ≡ Clear
-    clear = cc (w .2)
+    clear = cc (w .3)
 
     safe : Safe (run P (start P) turns)
-    safe = w .3 .safe clear turns
+    safe = w .4 .safe clear turns
 
 -- the table is accepted, the buffer has room for its model, and the answer is clear, with the share of a clear table
 pub record AnsweredClear (table before after : List ℕ) : Type 0 where
@@ -53,7 +53,8 @@ pub record AnsweredClear (table before after : List ℕ) : Type 0 where
   pub accepts : checkTable table ≡ accepted program
   pub long : row-bytes * length program ≤ length before
   pub share : Share
-  pub analysed : Analysed table before after (Judged Clear share)
+  pub rounds : ℕ
+  pub analysed : Analysed table before after (Judged Clear share rounds)
   pub whole : (share .percent ≡ 100) × (share .remainder ≡ 0)
 
 -- that is so where the launcher's number is 0
@@ -63,9 +64,9 @@ zero-is-clear table before after p = by (checkTable table) refl
     a : Analysed table before after (p .0)
     a = p .2
 
-    clear : (v : Verdict) (s : Share) → p .0 ≡ Judged v s → v ≡ Clear
-    clear Clear s e = refl
-    clear (Ring ring) s e = let z : 0 ≡ numberOf (Judged (Ring ring) s) = rw e at (p .1) in absurd (omega arith)
+    clear : (v : Verdict) (s : Share) (m : ℕ) → p .0 ≡ Judged v s m → v ≡ Clear
+    clear Clear s m e = refl
+    clear (Ring ring) s m e = let z : 0 ≡ numberOf (Judged (Ring ring) s m) = rw e at (p .1) in absurd (omega arith)
 
     by : (o : Outcome) → checkTable table ≡ o → AnsweredClear table before after
     by (refused e) h =
@@ -80,12 +81,13 @@ zero-is-clear table before after p = by (checkTable table) refl
         sized (no ge) =
             let w = a .judged P h (omega arith) in
             let s = w .1 in
-            let e : w .0 ≡ Clear = clear (w .0) s (w .2) in
+            let e : w .0 ≡ Clear = clear (w .0) s (w .2) (w .3) in
             record {
               program = P;
               accepts = h;
               long = omega arith;
               share = s;
-              analysed = let answer : p .0 ≡ Judged Clear s = cc (w .2, e) in rw answer at a;
-              whole = clear-whole P (s .percent) (s .remainder) (s .reached) (w .3 .shares) (rw e at (w .3 .says));
+              rounds = w .2;
+              analysed = let answer : p .0 ≡ Judged Clear s (w .2) = cc (w .3, e) in rw answer at a;
+              whole = clear-whole P (s .percent) (s .remainder) (s .reached) (w .4 .shares) (rw e at (w .4 .says));
             }

@@ -4,7 +4,8 @@ use Prim.Native.Nat.{_+_, _-_, _≤_}
 use native.Mathlib.Omega.{arith}
 use lib.ListN.{length, take}
 use Rattle.table.specs.laws.Lists.{getD-in}
-use Rattle.append.specs.Appending.{Appends, nothing, same-size}
+use Rattle.append.specs.Appends.{Appends}
+use Rattle.append.specs.laws.Appending.{nothing, same-size}
 use Rattle.writer.specs.Contracts.{countsOf}
 use Rattle.writer.proofs.TableLaws.{counts-more, counts-all}
 use borrow.Author.Needs.{needs}

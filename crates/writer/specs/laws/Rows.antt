@@ -80,17 +80,17 @@ clear-says P (SaysRing ring) says = (
 
 -- the table holds P, and it and the canonical table of P are judged, each from a buffer of its own
 module _ (table : List ℕ) (P : Program) (bytes : Bytes table) (e : checkTable table ≡ accepted P)
-    (before after before′ after′ : List ℕ) (v v′ : Verdict) (s s′ : Share)
-    (a : Analysed table before after (Judged v s))
-    (a′ : Analysed (canonicalTable P) before′ after′ (Judged v′ s′)) where
+    (before after before′ after′ : List ℕ) (v v′ : Verdict) (s s′ : Share) (m m′ : ℕ)
+    (a : Analysed table before after (Judged v s m))
+    (a′ : Analysed (canonicalTable P) before′ after′ (Judged v′ s′ m′)) where
   within : WithinLimits P
   within = sound table P bytes e .1
 
-  first : JudgedAs P before after v s
-  first = judged-as table before after v s a P e
+  first : JudgedAs P before after v s m
+  first = judged-as table before after v s m a P e
 
-  second : JudgedAs (canonical P) before′ after′ v′ s′
-  second = judged-as (canonicalTable P) before′ after′ v′ s′ a′ (canonical P) (canonical-accepted P within)
+  second : JudgedAs (canonical P) before′ after′ v′ s′ m′
+  second = judged-as (canonicalTable P) before′ after′ v′ s′ m′ a′ (canonical P) (canonical-accepted P within)
 
   -- every byte of the row of a reached routine is that of the row of its new number
   pub row-bytes-kept : (r : ℕ) → Reached P r → (i : ℕ) → i < row-bytes

@@ -97,9 +97,9 @@ fn method() -> String {
     format!(
         "The archive's `vangpear_analyse` and `reference::fast::analyse_number`, a Rust analyser made for\n\
          speed and for this benchmark alone, do the same job on the same tables in one process: the check\n\
-         with refusals 1 to 15, the model, the number of the verdict. Before anything is timed, both and\n\
-         the naive reference analyser agree on every table below, in the answer and in every byte of the\n\
-         buffer.\n\
+         with refusals 1 to 15, the model in rounds that are counted, the number of the verdict. Before\n\
+         anything is timed, both and the naive reference analyser agree on every table below, in the answer\n\
+         and in every byte of the buffer.\n\
          \n\
          Each time is a median over {SAMPLES} samples, in microseconds for one table. A sample is whole\n\
          passes over the group's tables, as many as take {} µs or more; the two sides take turns. It is\n\

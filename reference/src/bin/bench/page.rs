@@ -35,7 +35,7 @@ pub fn some_of_all(numbers: &[(usize, usize)]) -> String {
 }
 
 /// The sum of these over their count, with one place where it is not whole.
-fn average(numbers: impl ExactSizeIterator<Item = usize>) -> String {
+pub fn average(numbers: impl ExactSizeIterator<Item = usize>) -> String {
     let count = numbers.len();
     let sum: usize = numbers.sum();
     match sum % count {

@@ -1,4 +1,5 @@
 -- `judgement_of` meets its contract: verdict and share are read off the routines that calls reach.
+use mathlib.Core.Path.{refl}
 use native.Mathlib.Omega.{arith}
 use Rattle.analysis.proofs.VerdictLaws.{rows-there, can-reach, some-counted, pronounced}
 use borrow.Author.Needs.{needs}
@@ -40,12 +41,14 @@ returns c =
     let verdict = counted .before in
     let found = verdict .before in
     let reach = found .before in
-    let start = reach .before .before .before in
-    pronounced (start .args .calls .now) (start .args .model .now) (start .args .names) (reach .reached .result)
-    (found .ring-rows .result) (reach .reached .ensures) (found .ring-rows .ensures) (reach .reached .ok)
-    (found .ring-rows .ok) (counted .count .result) (c .before .count2 .result) (verdict .verdict-of .result)
-    (c .share-of .result) (counted .count .ensures .0) (c .before .count2 .ensures .0) (verdict .verdict-of .ensures)
-    (c .share-of .ensures)
+    let start = reach .before .before .before in (
+      pronounced (start .args .calls .now) (start .args .model .now) (start .args .names) (reach .reached .result)
+          (found .ring-rows .result) (reach .reached .ensures) (found .ring-rows .ensures) (reach .reached .ok)
+          (found .ring-rows .ok) (counted .count .result) (c .before .count2 .result) (verdict .verdict-of .result)
+          (c .share-of .result) (counted .count .ensures .0) (c .before .count2 .ensures .0)
+          (verdict .verdict-of .ensures) (c .share-of .ensures),
+      refl,
+    )
 
 pub judgement-of-spec : {M : Type 1} → statement M
 judgement-of-spec =

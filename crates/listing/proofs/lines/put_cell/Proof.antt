@@ -1,7 +1,7 @@
 -- `put_cell` meets its contract: no line where the cell is 0, and its line otherwise.
 use native.Mathlib.Omega.{arith}
 use mathlib.Core.Path.{sym, _∙_}
-use Rattle.append.specs.Appending.{nothing}
+use Rattle.append.specs.laws.Appending.{nothing}
 use Rattle.listing.proofs.LineLaws.{no-line, a-line}
 use borrow.Author.Needs.{needs}
 use Rattle.listing.proofs.lines.put_cell.Statement.{statement}

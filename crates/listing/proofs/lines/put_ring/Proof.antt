@@ -1,6 +1,6 @@
 -- `put_ring` meets its contract: the word, the numbers and the end of the line, one after the other.
 use native.Mathlib.Omega.{arith}
-use Rattle.append.specs.Appending.{then}
+use Rattle.append.specs.laws.Appending.{then}
 use Rattle.listing.proofs.LineLaws.{ring-short}
 use borrow.Author.Needs.{needs}
 use Rattle.listing.proofs.lines.put_ring.Statement.{statement}

@@ -1,7 +1,7 @@
 -- `put_verdict` meets its contract, by the cases of the verdict.
 use native.Mathlib.Omega.{arith}
 use Rattle.listing.specs.Text.{verdictLine}
-use Rattle.append.specs.Appending.{equal-text}
+use Rattle.append.specs.laws.Appending.{equal-text}
 use Rattle.analysis.specs.Answer.{Short}
 use mathlib.Core.Path.{ap, subst}
 use borrow.Author.Needs.{needs}

@@ -1,6 +1,6 @@
 -- `put_decimal` meets its contract: a tenth of the number, if it is not 0, and then the last digit. The measure is n.
 use Prim.Native.Nat.{_/_}
-use Rattle.append.specs.Appending.{then, equal-text}
+use Rattle.append.specs.laws.Appending.{then, equal-text}
 use Rattle.listing.proofs.DecimalLaws.{decimal-few, decimal-one, decimal-more}
 use borrow.Author.Needs.{needs}
 use native.Mathlib.Omega.{arith}

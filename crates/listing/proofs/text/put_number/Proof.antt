@@ -1,6 +1,6 @@
 -- `put_number` meets its contract: a space, and then the number.
 use native.Mathlib.Omega.{arith}
-use Rattle.append.specs.Appending.{then}
+use Rattle.append.specs.laws.Appending.{then}
 use Rattle.listing.proofs.DecimalLaws.{three-digits}
 use borrow.Author.Needs.{needs}
 use Rattle.listing.proofs.text.put_number.Statement.{statement}

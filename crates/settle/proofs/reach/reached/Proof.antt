@@ -20,8 +20,10 @@ abbrev AtVisit : Type 0
 AtVisit = lts.After-highest (highest-reads.Asked, highest-reads.Learnt) reads.Pre reads.Post Inv-loop μ-loop
 
 -- and what is known of the visit there
-at-visit : (a : AtVisit) → Visit (a .before .before .before .before .before .args .calls .now)
-    (a .before .before .before .before .before .args .from) (a .before .before .loop .mask) (a .before .before .loop .left) (a .highest .result)
+at-visit : (a : AtVisit) →
+    let turn = a .before .before in
+    let start = turn .before .before .before in
+    Visit (start .args .calls .now) (start .args .from) (turn .loop .mask) (turn .loop .left) (a .highest .result)
 at-visit a =
     let l = a .before .before .loop in
     let looped = a .before .before .before in

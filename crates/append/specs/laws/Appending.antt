@@ -1,4 +1,4 @@
--- What a function that appends to a text leaves, and the laws of it. The text may be longer than its buffer.
+-- Appending to a text, byte by byte and part by part.
 use mathlib.Core.Path.{_≡_, refl, sym, ap, subst, _∙_}
 use mathlib.Core.List.{List, [], _∷_, _++_}
 use Prim.Native.Nat.{ℕ, suc, _+_, _<_, _≤_}
@@ -6,11 +6,7 @@ use native.Mathlib.Omega.{arith}
 use native.Mathlib.Numerals.{add-one}
 use lib.ListN.{length, getD, take, set, length-append}
 use lib.Seq.{sets, length-sets, set-out, take-all, take-suc}
-
--- w was written from `at` on, as far as there was room, and `after` is the place after it
-pub record Appends (at : ℕ) (w before now : List ℕ) (after : ℕ) : Type 0 where
-  pub bytes : now ≡ sets before at w
-  pub place : after ≡ at + length w
+use Rattle.append.specs.Appends.{Appends}
 
 -- a text in two parts
 pub sets-append : (v w l : List ℕ) (at : ℕ) → sets l at (v ++ w) ≡ sets (sets l at v) (at + length v) w

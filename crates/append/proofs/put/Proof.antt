@@ -2,11 +2,12 @@
 use mathlib.Core.Path.{_≡_}
 use Prim.Native.Nat.{_+_, _≤_, _-_}
 use lib.ListN.{length, take}
-use Rattle.append.specs.Appending.{Appends, nothing, one-more, all, same-size}
+use Rattle.append.specs.Appends.{Appends}
+use Rattle.append.specs.laws.Appending.{nothing, one-more, all, same-size}
 use borrow.Author.Needs.{needs}
 use native.Mathlib.Omega.{arith}
-use Rattle.listing.proofs.text.put.Statement.{statement}
-use Rattle.listing.proofs.text.put.Tie as tie
+use Rattle.append.proofs.put.Statement.{statement}
+use Rattle.append.proofs.put.Tie as tie
 
 abbrev Inv-loop : tie.InvT-loop
 Inv-loop out₀ at w p₀ i₀ out p i = (i ≤ length w) × (p ≡ at + i) × Appends at (take i w) out₀ out p

@@ -1,0 +1,2 @@
+-- What follows from the definition, for the proofs to cite.
+pub mod Appending

@@ -1,0 +1,4 @@
+mod RoundLaws
+mod TurnLaws
+mod PassLaws
+mod GoingLaws
