@@ -14,8 +14,8 @@
 //! tables that must come to the same bytes, and `writing_marks` tells what the inputs have in
 //! them. `rounds` works out the rows in rounds and counts them, and has the dearest chain;
 //! `round_tables` gives tables that need many. `fast`, `fast_canonical`, `fast_read`, `groups` and
-//! `timing` are there for the benchmark alone, `command` has what the binaries share, and `archive`
-//! calls what is under test.
+//! `timing` are there for the benchmark alone, `command` and `lent` have what the binaries share,
+//! and `archive` calls what is under test.
 
 #[cfg(feature = "archive")]
 pub mod archive;
@@ -30,6 +30,7 @@ pub mod frames;
 pub mod generate;
 pub mod groups;
 pub mod hex;
+pub mod lent;
 pub mod limits;
 mod listing;
 pub mod model;

@@ -58,18 +58,13 @@ fn compare(tally: &mut Tally, table: &[u8]) -> Result<(), String> {
     } else {
         tally.accepted += 1;
     }
-    analysis::compare(&mut tally.analysis, table, expected)?;
-    Ok(())
+    analysis::compare(&mut tally.analysis, table)
 }
 
 /// The analysis, over buffers of every length that matters.
 mod analysis {
-    use reference::analyse_number;
-    use reference::archive;
-    use reference::limits::{CHECK_ROUTINE, MAX_ROUTINES, RING_BASE, ROW_BYTES};
-
-    /// Bytes on both sides of a buffer, which must stay as they were.
-    const GUARD: usize = 128;
+    use reference::limits::RING_BASE;
+    use reference::{analyse_number, archive, lent};
 
     #[derive(Default)]
     pub struct Tally {
@@ -79,49 +74,11 @@ mod analysis {
         pub refused: u64,
     }
 
-    /// Bytes that tell their places apart, never 0.
-    fn filler(count: usize) -> Vec<u8> {
-        (0..count).map(|place| (place % 251) as u8 + 1).collect()
-    }
-
-    /// `checked` is the number that the check gave.
-    pub fn compare(tally: &mut Tally, table: &[u8], checked: u32) -> Result<(), String> {
-        let lengths = if checked < CHECK_ROUTINE {
-            vec![0, 1, ROW_BYTES, ROW_BYTES * MAX_ROUTINES]
-        } else {
-            let n = (checked / CHECK_ROUTINE) as usize;
-            let exact = ROW_BYTES * n;
-            vec![0, exact - 1, 64 * n, exact, exact + ROW_BYTES + 7]
-        };
-        for length in lengths {
-            let before = filler(length + 2 * GUARD);
-            // The reference gets the buffer alone, so its guards cannot change.
-            let mut expected_bytes = before.clone();
-            let expected = analyse_number(table, &mut expected_bytes[GUARD..GUARD + length]);
-            let mut given_bytes = before.clone();
-            let lent = table.to_vec();
-            let given = archive::analyse(&lent, &mut given_bytes[GUARD..GUARD + length]);
-
-            let said = format!("analyse with a buffer of {length}: ");
-            if given != expected {
-                return Err(format!("{said}archive {given}, reference {expected}"));
-            }
-            if lent != table {
-                return Err(format!("{said}{given} in both, but the table was changed"));
-            }
-            let refused = expected != 0 && expected < RING_BASE;
-            if refused && expected_bytes != before {
-                return Err(format!("{said}the reference changed a byte and refused"));
-            }
-            let differing = (0..before.len()).find(|&at| given_bytes[at] != expected_bytes[at]);
-            if let Some(at) = differing {
-                return Err(format!(
-                    "{said}{given} in both, but byte {} of the buffer is {} in the archive's, {} in the reference's",
-                    at as i64 - GUARD as i64, given_bytes[at], expected_bytes[at]
-                ));
-            }
+    pub fn compare(tally: &mut Tally, table: &[u8]) -> Result<(), String> {
+        let refuses = |answer| answer != 0 && answer < RING_BASE;
+        for answer in lent::compare("analyse", archive::analyse, analyse_number, refuses, table)? {
             tally.buffers += 1;
-            match expected {
+            match answer {
                 0 => tally.clear += 1,
                 RING_BASE.. => tally.ring += 1,
                 _ => tally.refused += 1,

@@ -19,11 +19,11 @@ use std::process::ExitCode;
 use reference::command::{self, listed};
 use reference::generate::random;
 use reference::limits::{most_rounds, most_rounds_without_cycle};
-use reference::limits::{MAX_ROUTINES, ROUNDS_BASE, ROW_BYTES};
+use reference::limits::{MAX_ROUTINES, ROUNDS_BASE};
 use reference::rounds::{chain, Counted, WRONG};
 use reference::table::{read, Table};
 use reference::update::reaching;
-use reference::{archive, check, hex, round_tables, rounds_number};
+use reference::{archive, hex, lent, round_tables, rounds_number};
 
 const DEFAULT_SEED: u64 = 1;
 const DEFAULT_COUNT: u64 = 10_000;
@@ -31,8 +31,6 @@ const DEFAULT_COUNT: u64 = 10_000;
 const ENOUGH: u64 = 1_000;
 /// To so many random tables there is one that is made to need many rounds.
 const TO_ONE_MADE: u64 = 10;
-/// Bytes on both sides of a buffer, which must stay as they were.
-const GUARD: usize = 128;
 /// The most rounds of each class of tables; the last one has no most.
 const CLASSES: [(u32, &str); 6] = [
     (1, "1"),
@@ -75,11 +73,6 @@ impl Needs {
     }
 }
 
-/// Bytes that tell their places apart, never 0.
-fn filler(count: usize) -> Vec<u8> {
-    (0..count).map(|place| (place % 251) as u8 + 1).collect()
-}
-
 /// Whether no calls lead from a routine back to it.
 fn has_no_cycle(table: &Table) -> bool {
     let mut routines = 0..table.routines.len();
@@ -108,47 +101,16 @@ fn within_bounds(bytes: &[u8], rounds: u32) -> Result<(), String> {
 
 /// Compares one table, or says how the outcomes differ. Gives the rounds of an accepted one.
 fn compare(tally: &mut Tally, table: &[u8]) -> Result<Option<u32>, String> {
-    let lengths = match check(table) {
-        Err(_) => vec![0, 1, ROW_BYTES, ROW_BYTES * MAX_ROUTINES],
-        Ok((n, _)) => {
-            let exact = ROW_BYTES * n;
-            vec![0, exact - 1, 64 * n, exact, exact + ROW_BYTES + 7]
-        }
-    };
+    let refuses = |answer| answer < ROUNDS_BASE;
     let mut rounds = None;
-    for length in lengths {
-        let before = filler(length + 2 * GUARD);
-        // The reference gets the buffer alone, so its guards cannot change.
-        let mut expected_bytes = before.clone();
-        let expected = rounds_number(table, &mut expected_bytes[GUARD..GUARD + length]);
-        let mut given_bytes = before.clone();
-        let lent = table.to_vec();
-        let given = archive::rounds(&lent, &mut given_bytes[GUARD..GUARD + length]);
-
-        let said = format!("rounds with a buffer of {length}: ");
-        if given != expected {
-            return Err(format!("{said}archive {given}, reference {expected}"));
-        }
-        if lent != table {
-            return Err(format!("{said}{given} in both, but the table was changed"));
-        }
-        if expected < ROUNDS_BASE && expected_bytes != before {
-            return Err(format!("{said}the reference changed a byte and refused"));
-        }
-        let differing = (0..before.len()).find(|&at| given_bytes[at] != expected_bytes[at]);
-        if let Some(at) = differing {
-            return Err(format!(
-                "{said}{given} in both, but byte {} of the buffer is {} in the archive's, {} in the reference's",
-                at as i64 - GUARD as i64, given_bytes[at], expected_bytes[at]
-            ));
-        }
+    for answer in lent::compare("rounds", archive::rounds, rounds_number, refuses, table)? {
         tally.buffers += 1;
-        if expected < ROUNDS_BASE {
-            *tally.refused.entry(expected).or_default() += 1;
+        if refuses(answer) {
+            *tally.refused.entry(answer).or_default() += 1;
         } else {
             tally.accepted += 1;
-            within_bounds(table, expected - ROUNDS_BASE)?;
-            rounds = Some(expected - ROUNDS_BASE);
+            within_bounds(table, answer - ROUNDS_BASE)?;
+            rounds = Some(answer - ROUNDS_BASE);
         }
     }
     Ok(rounds)
