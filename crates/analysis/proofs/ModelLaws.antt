@@ -8,10 +8,10 @@ use Rattle.table.specs.Program.{Program}
 use Rattle.rules.specs.Model.{Row, Ring}
 use Rattle.rules.specs.Verdict.{Reached, Clear, RingAt}
 use Rattle.rows.specs.Bytes.{RingByte, RowsOf}
-use Rattle.rows.specs.laws.Fixpoint.{Settled, settled}
-use Rattle.table.specs.Constants.{row-bytes, row-names}
+use Rattle.rows.specs.Laws.Fixpoint.{Settled, settled}
+use Rattle.table.specs.Constants.{row_bytes, row_names}
 use Rattle.analysis.specs.Answer.{Flag, Cell, Models}
-use Rattle.analysis.specs.laws.Bytes.{bit-flag, cell_at}
+use Rattle.analysis.specs.Laws.Bytes.{bit_flag, cell_at}
 use Rattle.settle.specs.Settle.{Named, Fresh, AllFresh}
 
 module _ (P : Program) (before model names : List ℕ) (part : AllFresh P before model names) where
@@ -22,28 +22,28 @@ module _ (P : Program) (before model names : List ℕ) (part : AllFresh P before
   all_settled = settled P (RowsOf (length P) model) part.sound (λ r l. (fresh r l).row)
 
   -- the last byte of a row tells whether there is a ring
-  pub ring-told : (r x : ℕ) → r < length P → Ring P r x → RingByte model r
-  ring-told r x l h = (fresh r l).ring x (all_settled.ring-from r x h)
+  pub ring_told : (r x : ℕ) → r < length P → Ring P r x → RingByte model r
+  ring_told r x l h = (fresh r l).ring x (all_settled.ring_from r x h)
 
-  is-cell : (r a b : ℕ) → r < length P → a < row-names → b < row-names
-      → Cell P r a b (get_or model (row-bytes * r + (row-names * a + b)) 0)
-  is-cell r a b l la lb =
-      cell_at model r a b la lb (part.shaped r l) (Row P r a b) (λ m h. all_settled.row-to r a b m (l, h))
+  is_cell : (r a b : ℕ) → r < length P → a < row_names → b < row_names
+      → Cell P r a b (get_or model (row_bytes * r + (row_names * a + b)) 0)
+  is_cell r a b l la lb =
+      cell_at model r a b la lb (part.shaped r l) (Row P r a b) (λ m h. all_settled.row_to r a b m (l, h))
       (λ m w. (all_settled.row_from r a b m w).1)
 
-  pub are-models : Models P model
-  are-models = record { cells = is-cell; last = last }
+  pub are_models : Models P model
+  are_models = record { cells = is_cell; last = last }
     where
       last : (r : ℕ) → r < length P
-          → Flag (get_or model (row-bytes * r + row-names * row-names) 0) ((x : ℕ) × Ring P r x)
+          → Flag (get_or model (row_bytes * r + row_names * row_names) 0) ((x : ℕ) × Ring P r x)
       last r l =
           let s = (part.shaped r l).last in
-          bit-flag (get_or model (65 * r + 64) 0) ((x : ℕ) × Ring P r x) (omega arith)
-          (λ e. part.ring-sound r l e) (λ h. ring-told r h.0 l h.1)
+          bit_flag (get_or model (65 * r + 64) 0) ((x : ℕ) × Ring P r x) (omega arith)
+          (λ e. part.ring_sound r l e) (λ h. ring_told r h.0 l h.1)
 
   -- clear is said where no row of a routine that calls reach tells of a ring
-  pub no-ring : ((q : ℕ) → Reached P q → q < length P) → ((q : ℕ) → Reached P q → RingByte model q → ⊥) → Clear P
-  no-ring within none q x h ring = none q h (ring-told q x (within q h) ring)
+  pub no_ring : ((q : ℕ) → Reached P q → q < length P) → ((q : ℕ) → Reached P q → RingByte model q → ⊥) → Clear P
+  no_ring within none q x h ring = none q h (ring_told q x (within q h) ring)
 
   -- a ring, in the lowest of the routines that calls reach whose row tells of one
   module _ (within : (q : ℕ) → Reached P q → q < length P) (r : ℕ) (reached : Reached P r) (told : RingByte model r)
@@ -53,22 +53,22 @@ module _ (P : Program) (before model names : List ℕ) (part : AllFresh P before
 
     few : get_or names r 0 < 16
     few =
-        let some = part.ring-sound r (within r reached) told in
-        (name.lowest some.0 (all_settled.ring-from r some.0 some.1)).1
+        let some = part.ring_sound r (within r reached) told in
+        (name.lowest some.0 (all_settled.ring_from r some.0 some.1)).1
 
     lower : (q y : ℕ) → Reached P q → Ring P q y → r ≤ q
     lower q y h z = elim (dec_lt q r) [
-      | yes p ↦ absurd (lowest q p h (ring-told q y (within q h) z))
+      | yes p ↦ absurd (lowest q p h (ring_told q y (within q h) z))
       | no p ↦ omega arith
     ]
 
-    pub ring-at : RingAt P r (get_or names r 0) × (get_or names r 0 < 16)
-    ring-at = (
+    pub ring_at : RingAt P r (get_or names r 0) × (get_or names r 0 < 16)
+    ring_at = (
       record {
         reached = reached;
-        ring = all_settled.ring-to r (get_or names r 0) (name.ring few);
-        lowest-routine = lower;
-        lowest-name = λ y h. (name.lowest y (all_settled.ring-from r y h)).0;
+        ring = all_settled.ring_to r (get_or names r 0) (name.ring few);
+        lowest_routine = lower;
+        lowest_name = λ y h. (name.lowest y (all_settled.ring_from r y h)).0;
       },
       few,
     )

@@ -10,14 +10,14 @@ use lib.Bits.{bit_or, bit_xor, or_lt, xor_lt}
 use lib.Count.{ones}
 use Rattle.table.specs.Program.{Program}
 use Rattle.table.specs.WellFormed.{WellFormed}
-use Rattle.table.specs.laws.Formed.{well-formed}
+use Rattle.table.specs.Laws.Formed.{well_formed}
 use Rattle.rules.specs.Verdict.{Reached, first}
 use Rattle.rules.specs.Share.{Count, ReachedRingless}
-use Rattle.rules.specs.laws.Verdict.{body-calls, reached-within}
-use Rattle.rules.specs.laws.Share.{count-some}
-use Rattle.run.specs.laws.Safety.{clear-is-safe}
+use Rattle.rules.specs.Laws.Verdict.{body_calls, reached_within}
+use Rattle.rules.specs.Laws.Share.{count_some}
+use Rattle.run.specs.Laws.Safety.{clear_is_safe}
 use Rattle.grid.specs.Rows.{Has, Bits}
-use Rattle.grid.specs.laws.Masks.{has-zero, bits-map, bits-beyond}
+use Rattle.grid.specs.Laws.Masks.{has_zero, bits_map, bits_beyond}
 use Rattle.rows.specs.Bytes.{RingByte}
 use Rattle.analysis.specs.Answer.{Says, Shares, Short}
 use Rattle.analysis.specs.declared.Share.{Share}
@@ -25,38 +25,38 @@ use Rattle.analysis.specs.declared.Verdict.{Verdict}
 use Rattle.analysis.specs.declared.Verdict.TheVariants.{Clear, Ring}
 use Rattle.settle.specs.Reach.{Reachable, CanReach}
 use Rattle.settle.specs.Due.{Callers}
-use Rattle.analysis.specs.laws.Judging.{RingRows, Tells, Divided}
+use Rattle.analysis.specs.Laws.Judging.{RingRows, Tells, Divided}
 use Rattle.settle.specs.Settle.{AllFresh}
 use Rattle.settle.specs.Bodies.{Known}
 use Rattle.byrounds.specs.Round.{CanBegin, RoundsDone}
 use Rattle.rounds.specs.Rounds.{Rounds}
-use Rattle.rounds.specs.laws.Bound.{rounds-le}
-use Rattle.analysis.specs.laws.Judges.{Finished, Pronounces}
-use Rattle.analysis.specs.laws.Judges.{CanJudgeKnown, JudgesKnown}
-use Rattle.analysis.proofs.ModelLaws.{are-models, ring-told, no-ring, ring-at}
-use Rattle.settle.specs.laws.Starts.{reached-bits}
-use Rattle.settle.specs.laws.Links.{linked}
+use Rattle.rounds.specs.Laws.Bound.{rounds_le}
+use Rattle.analysis.specs.Laws.Judges.{Finished, Pronounces}
+use Rattle.analysis.specs.Laws.Judges.{CanJudgeKnown, JudgesKnown}
+use Rattle.analysis.proofs.ModelLaws.{are_models, ring_told, no_ring, ring_at}
+use Rattle.settle.specs.Laws.Starts.{reached_bits}
+use Rattle.settle.specs.Laws.Links.{linked}
 use Rattle.analysis.proofs.JudgingLaws.{count_bits}
 
 module _ (calls model names : List ℕ) where
-  pub rows-there : Finished calls model names → (length calls ≤ 64) × (65 * length calls ≤ length model)
-  rows-there fin =
-      let e = fin.known.surveyed.calls-long in
-      let l = fin.known.holds.limits.few-routines in
+  pub rows_there : Finished calls model names → (length calls ≤ 64) × (65 * length calls ≤ length model)
+  rows_there fin =
+      let e = fin.known.surveyed.calls_long in
+      let l = fin.known.holds.limits.few_routines in
       let g = fin.long in
       (omega arith, omega arith)
 
-  pub can-reach : Finished calls model names → CanReach calls 0
-  can-reach fin =
-      let e = fin.known.surveyed.calls-long in
-      let wf = well-formed fin.program fin.known.holds.limits in
+  pub can_reach : Finished calls model names → CanReach calls 0
+  can_reach fin =
+      let e = fin.known.surveyed.calls_long in
+      let wf = well_formed fin.program fin.known.holds.limits in
       record {
-        there = let l = wf.some-routine in omega arith;
-        few = (rows-there fin).0;
+        there = let l = wf.some_routine in omega arith;
+        few = (rows_there fin).0;
         within = λ r q c.
             let l : r < length calls = c.0 in
             let k : r < length fin.program = omega arith in
-            let w = body-calls fin.program wf r q k (fin.known.surveyed.calls-to r q k c.1) in
+            let w = body_calls fin.program wf r q k (fin.known.surveyed.calls_to r q k c.1) in
             omega arith;
       }
 
@@ -66,75 +66,75 @@ module _ (calls model names : List ℕ) where
     module _ (P : Program) (ks s starts before : List ℕ) (known : Known P ks s starts calls)
         (part : AllFresh P before model names) where
       formed : WellFormed P
-      formed = well-formed P known.holds.limits
+      formed = well_formed P known.holds.limits
 
-      is-reached : Bits reached (Reached P)
-      is-reached = reached-bits P formed starts calls known.surveyed reached reach
+      is_reached : Bits reached (Reached P)
+      is_reached = reached_bits P formed starts calls known.surveyed reached reach
 
-      ring-row : (r : ℕ) → Reached P r → RingByte model r → Has rings r
-      ring-row r h b =
-          let e = known.surveyed.calls-long in
-          let l = reached-within P formed r h in
-          found.from r (omega arith, (is-reached.from r h, b))
+      ring_row : (r : ℕ) → Reached P r → RingByte model r → Has rings r
+      ring_row r h b =
+          let e = known.surveyed.calls_long in
+          let l = reached_within P formed r h in
+          found.from r (omega arith, (is_reached.from r h, b))
 
       says : (v : Verdict) → Tells rings names v → Says P v × Short v
       says Clear e = (
-        no-ring P before model names part (reached-within P formed)
-            (λ q h b. has-zero q (rw e at (ring-row q h b))),
+        no_ring P before model names part (reached_within P formed)
+            (λ q h b. has_zero q (rw e at (ring_row q h b))),
         tt,
       )
       says (Ring ring) (low, l, e) =
           let w = found.to ring.routine low.bit in
-          let h = ring-at P before model names part (reached-within P formed) ring.routine
-          (is-reached.to ring.routine w.1.0) w.1.1
-          (λ q k g b. low.lowest q k (ring-row q g b)) in
+          let h = ring_at P before model names part (reached_within P formed) ring.routine
+          (is_reached.to ring.routine w.1.0) w.1.1
+          (λ q k g b. low.lowest q k (ring_row q g b)) in
           (rw e h.0, (l, rw e h.1))
 
       abbrev ringless : ℕ
       ringless = bit_xor (bit_or reached rings) rings
 
-      is-ringless : Bits ringless (ReachedRingless P)
-      is-ringless = bits-map
+      is_ringless : Bits ringless (ReachedRingless P)
+      is_ringless = bits_map
           (λ r h. (
-            is-reached.to r h.0,
-            λ x ring. h.1 (ring-row r (is-reached.to r h.0)
-                (ring-told P before model names part r x (reached-within P formed r (is-reached.to r h.0)) ring)),
+            is_reached.to r h.0,
+            λ x ring. h.1 (ring_row r (is_reached.to r h.0)
+                (ring_told P before model names part r x (reached_within P formed r (is_reached.to r h.0)) ring)),
           ))
           (λ r h. (
-            is-reached.from r h.0,
+            is_reached.from r h.0,
             λ g.
-                let some = part.ring-sound r (reached-within P formed r h.0) (found.to r g).1.1 in
+                let some = part.ring_sound r (reached_within P formed r h.0) (found.to r g).1.1 in
                 h.1 some.0 some.1,
           ))
-          (bits-beyond reached rings)
+          (bits_beyond reached rings)
 
       module _ (low : reached < 2 ^ 64) (lows : rings < 2 ^ 64) where
-        ringless-fits : ringless < 2 ^ 64
-        ringless-fits = xor_lt 64 (bit_or reached rings) rings (or_lt 64 reached rings low lows) lows
+        ringless_fits : ringless < 2 ^ 64
+        ringless_fits = xor_lt 64 (bit_or reached rings) rings (or_lt 64 reached rings low lows) lows
 
         counted : Count (Reached P) (ones reached)
-        counted = count_bits (Reached P) reached low is-reached
+        counted = count_bits (Reached P) reached low is_reached
 
-        counted-ringless : Count (ReachedRingless P) (ones ringless)
-        counted-ringless = count_bits (ReachedRingless P) ringless ringless-fits is-ringless
+        counted_ringless : Count (ReachedRingless P) (ones ringless)
+        counted_ringless = count_bits (ReachedRingless P) ringless ringless_fits is_ringless
 
-        some-reached : 0 < ones reached
-        some-reached = count-some 0 first counted
+        some_reached : 0 < ones reached
+        some_reached = count_some 0 first counted
 
         shares : (share : Share) → Divided (ones ringless) (ones reached) share → Shares P share
         shares share d = rw (d.0, d.1, d.2) (record {
           c = ones ringless;
           reached = counted;
-          ringless = counted-ringless;
+          ringless = counted_ringless;
           sum = sym (div-add-mod' (100 * ones ringless) (ones reached));
-          below = mod-lt (100 * ones ringless) some-reached;
+          below = mod-lt (100 * ones ringless) some_reached;
         })
 
     module _ (low : reached < 2 ^ 64) (lows : rings < 2 ^ 64) where
       -- there is a reached routine to divide by
-      pub some-counted : Finished calls model names → 0 < ones reached
-      some-counted fin =
-          some-reached fin.program fin.ks fin.s fin.starts fin.before fin.known fin.fresh low lows
+      pub some_counted : Finished calls model names → 0 < ones reached
+      some_counted fin =
+          some_reached fin.program fin.ks fin.s fin.starts fin.before fin.known fin.fresh low lows
 
       -- the verdict and the share are those of the program
       pub pronounced : (c m : ℕ) (verdict : Verdict) (share : Share)
@@ -144,43 +144,43 @@ module _ (calls model names : List ℕ) where
           let v = says P ks s starts before known part verdict tells in
           (v.0, shares P ks s starts before known part low lows share (rw (ec, em) at d), v.1)
 
-pub few-calls : (ks s starts calls model : List ℕ) → CanJudgeKnown ks s starts calls model → length calls ≤ 64
-few-calls ks s starts calls model p =
-    let e = p.known.surveyed.calls-long in
-    let l = p.known.holds.limits.few-routines in
+pub few_calls : (ks s starts calls model : List ℕ) → CanJudgeKnown ks s starts calls model → length calls ≤ 64
+few_calls ks s starts calls model p =
+    let e = p.known.surveyed.calls_long in
+    let l = p.known.holds.limits.few_routines in
     omega arith
 
 module _ (ks s starts calls callers : List ℕ) (turned : Callers calls callers) where
-  pub can-begin : (model : List ℕ) → CanJudgeKnown ks s starts calls model
+  pub can_begin : (model : List ℕ) → CanJudgeKnown ks s starts calls model
       → CanBegin ks s starts callers model (replicate 64 16)
-  can-begin model p = record {
+  can_begin model p = record {
     program = p.program;
     linked = linked ks s starts calls callers turned p.program p.known;
     long = p.long;
-    names-long = refl;
+    names_long = refl;
     no_name = λ q h. get_or-replicate 64 q 16 0 h;
   }
 
   -- what the judgement leaves
   module _ (before after names : List ℕ) (m : ℕ) (done : RoundsDone ks s starts callers before after names m) where
-    pub judged-known : (verdict : Verdict) (share : Share) (n : ℕ)
+    pub judged_known : (verdict : Verdict) (share : Share) (n : ℕ)
         → Pronounces calls after names verdict share × (n ≡ m)
         → JudgesKnown ks s starts calls before after verdict share n
-    judged-known verdict share n pr P known l =
+    judged_known verdict share n pr P known l =
         let settled = done P (linked ks s starts calls callers turned P known) l in
         let part = settled.0 in
         let rounds : Rounds P n = rw pr.1 settled.1 in
-        let most = rounds-le P known.holds.limits n rounds in
-        let few = known.holds.limits.few-routines in
+        let most = rounds_le P known.holds.limits n rounds in
+        let few = known.holds.limits.few_routines in
         let says = pr.0 P ks s starts before known part in (
           record {
-            model = are-models P before after names part;
+            model = are_models P before after names part;
             same_length = part.long;
             rest = part.rest;
             says = says.0;
             shares = says.1;
             rounds = rounds;
-            safe = λ e. clear-is-safe P (well-formed P known.holds.limits) (rw e at says.0);
+            safe = λ e. clear_is_safe P (well_formed P known.holds.limits) (rw e at says.0);
           },
           says.2,
           omega arith,

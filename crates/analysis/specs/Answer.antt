@@ -1,14 +1,14 @@
 -- What the analysis leaves: its answer, the model in the lent buffer, and what the verdict clear promises.
 use Rattle.std.specs.Prelude.{◌≡◌, ◌⊎◌, List, ℕ, ◌+◌, ◌*◌, ◌≤◌, ◌<◌, length, get_or}
-use Rattle.table.specs.Constants.{most-routines, most-names, row-names, row-bytes}
+use Rattle.table.specs.Constants.{most_routines, most_names, row_names, row_bytes}
 use Rattle.table.specs.Program.{Program}
-use Rattle.table.specs.Check.{refused, accepted, checkTable}
+use Rattle.table.specs.Check.{refused, accepted, check_table}
 use Rattle.rules.specs.Label.{Label, own, unknown, several}
 use Rattle.rules.specs.Model.{Row, Ring}
 use Rattle.rules.specs.Verdict.{Clear, RingAt}
 use Rattle.rules.specs.Share.{ShareOf}
-use Rattle.rows.specs.Bytes.{cellByte, lastByte}
-use Rattle.rounds.specs.Rounds.{most-changes, Rounds}
+use Rattle.rows.specs.Bytes.{cell_byte, last_byte}
+use Rattle.rounds.specs.Rounds.{most_changes, Rounds}
 use Rattle.run.specs.Run.{start, run, Turn, Safe}
 use Rattle.analysis.specs.declared.Verdict.{Verdict}
 use Rattle.analysis.specs.declared.Verdict.TheVariants.{Clear as SaysClear, Ring as SaysRing}
@@ -17,8 +17,8 @@ use Rattle.analysis.specs.declared.Answer.{Answer}
 use Rattle.analysis.specs.declared.Answer.TheVariants.{Judged, Refused}
 
 -- the refusal of a model buffer that is too short
-abbrev pub short-buffer : ℕ
-short-buffer = 15
+abbrev pub short_buffer : ℕ
+short_buffer = 15
 
 -- v is 1 where Q holds, and 0 where it does not
 abbrev pub Flag : ℕ → Type 0 → Type 0
@@ -30,9 +30,9 @@ pub record CellOf (L : Label → Type 0) (v : ℕ) : Type 0 where
   pub two : ℕ
   pub four : ℕ
   pub sum : v ≡ one + 2 * two + 4 * four
-  pub by-own : Flag one (L own)
-  pub by-unknown : Flag two (L unknown)
-  pub by-several : Flag four (L several)
+  pub by_own : Flag one (L own)
+  pub by_unknown : Flag two (L unknown)
+  pub by_several : Flag four (L several)
 
 -- v is the byte of cell (a, b) in the row of routine r
 abbrev pub Cell : Program → ℕ → ℕ → ℕ → ℕ → Type 0
@@ -40,10 +40,10 @@ Cell P r a b = CellOf (Row P r a b)
 
 -- the buffer begins with the rows of the least model of P
 pub record Models (P : Program) (model : List ℕ) : Type 0 where
-  pub cells : (r a b : ℕ) → r < length P → a < row-names → b < row-names
-      → Cell P r a b (cellByte model r a b)
+  pub cells : (r a b : ℕ) → r < length P → a < row_names → b < row_names
+      → Cell P r a b (cell_byte model r a b)
   pub last : (r : ℕ) → r < length P
-      → Flag (lastByte model r) ((x : ℕ) × Ring P r x)
+      → Flag (last_byte model r) ((x : ℕ) × Ring P r x)
 
 -- what the verdict says of P
 abbrev pub Says : Program → Verdict → Type 0
@@ -62,7 +62,7 @@ SafeRuns P = (turns : List Turn) → Safe (run P (start P) turns)
 pub record JudgedAs (P : Program) (before after : List ℕ) (verdict : Verdict) (share : Share) (m : ℕ) : Type 0 where
   pub model : Models P after
   pub same_length : length after ≡ length before
-  pub rest : (i : ℕ) → row-bytes * length P ≤ i → get_or after i 0 ≡ get_or before i 0
+  pub rest : (i : ℕ) → row_bytes * length P ≤ i → get_or after i 0 ≡ get_or before i 0
   pub says : Says P verdict
   pub shares : Shares P share
   pub rounds : Rounds P m
@@ -74,35 +74,35 @@ RefusedBy e before after answer = (answer ≡ Refused e) × (after ≡ before)
 
 -- the answer to a table, with the buffer before and after
 pub record Analysed (table before after : List ℕ) (answer : Answer) : Type 0 where
-  pub refused-table : (e : ℕ) → checkTable table ≡ refused e → RefusedBy e before after answer
-  pub refused-buffer : (P : Program) → checkTable table ≡ accepted P → length before < row-bytes * length P
-      → RefusedBy short-buffer before after answer
-  pub judged : (P : Program) → checkTable table ≡ accepted P → row-bytes * length P ≤ length before
+  pub refused_table : (e : ℕ) → check_table table ≡ refused e → RefusedBy e before after answer
+  pub refused_buffer : (P : Program) → check_table table ≡ accepted P → length before < row_bytes * length P
+      → RefusedBy short_buffer before after answer
+  pub judged : (P : Program) → check_table table ≡ accepted P → row_bytes * length P ≤ length before
       → (verdict : Verdict) × (share : Share) × (m : ℕ) × (answer ≡ Judged verdict share m)
       × JudgedAs P before after verdict share m
 
 -- a ring's numbers are those of a routine and a name of a table
 abbrev pub Short : Verdict → Type 0
 Short SaysClear = Unit {0}
-Short (SaysRing ring) = (ring.routine < most-routines) × (ring.name < most-names)
+Short (SaysRing ring) = (ring.routine < most_routines) × (ring.name < most_names)
 
 -- the most rounds that a table needs: each row changes so often at most, and the last round changes nothing
-abbrev pub most-rounds : ℕ
-most-rounds = most-changes * most-routines + 1
+abbrev pub most_rounds : ℕ
+most_rounds = most_changes * most_routines + 1
 
 -- the numbers of an answer are those of a table; a refusal is one of those from 1 to the last
 abbrev pub Fits : Answer → Type 0
-Fits (Judged verdict share m) = Short verdict × (m ≤ most-rounds)
-Fits (Refused e) = (1 ≤ e) × (e ≤ short-buffer)
+Fits (Judged verdict share m) = Short verdict × (m ≤ most_rounds)
+Fits (Refused e) = (1 ≤ e) × (e ≤ short_buffer)
 
 -- the launcher's number of a verdict
-abbrev pub verdictNumber : Verdict → ℕ
-verdictNumber SaysClear = 0
-verdictNumber (SaysRing ring) = 65536 + 1024 * ring.routine + 32 * ring.name
+abbrev pub verdict_number : Verdict → ℕ
+verdict_number SaysClear = 0
+verdict_number (SaysRing ring) = 65536 + 1024 * ring.routine + 32 * ring.name
 
 -- the launcher's number of an answer; the share and the rounds are not in it
 abbrev pub number_of : Answer → ℕ
-number_of (Judged verdict share m) = verdictNumber verdict
+number_of (Judged verdict share m) = verdict_number verdict
 number_of (Refused e) = e
 
 -- the launcher's number for a table is that of its answer
@@ -110,10 +110,10 @@ abbrev pub AnalysedAs : List ℕ → List ℕ → List ℕ → ℕ → Type 0
 AnalysedAs table before after n = (answer : Answer) × (n ≡ number_of answer) × Analysed table before after answer
 
 -- the launcher's number of rounds: 65,536 + their number, or the refusal's number
-abbrev pub roundsNumber : Answer → ℕ
-roundsNumber (Judged verdict share m) = 65536 + m
-roundsNumber (Refused e) = e
+abbrev pub rounds_number : Answer → ℕ
+rounds_number (Judged verdict share m) = 65536 + m
+rounds_number (Refused e) = e
 
 -- the launcher's number of rounds for a table is that of its answer
 abbrev pub RoundsAs : List ℕ → List ℕ → List ℕ → ℕ → Type 0
-RoundsAs table before after n = (answer : Answer) × (n ≡ roundsNumber answer) × Analysed table before after answer
+RoundsAs table before after n = (answer : Answer) × (n ≡ rounds_number answer) × Analysed table before after answer

@@ -1,9 +1,9 @@
 // What is said of a program whose rows are those of its model: the verdict, the share, and the number of rounds.
 ghost use Rattle.std.specs.Prelude.{◌≡◌, ◌*◌, ◌≤◌, ◌<◌, length};
 ghost use Rattle.std.specs.Int.Count.{ones};
-ghost use Rattle.table.specs.Constants.{most-routines, row-bytes};
-ghost use Rattle.analysis.specs.laws.Judging.{Divided, Lowest, RingRows, Tells};
-ghost use Rattle.analysis.specs.laws.Judges.{Finished, Pronounces};
+ghost use Rattle.table.specs.Constants.{most_routines, row_bytes};
+ghost use Rattle.analysis.specs.Laws.Judging.{Divided, Lowest, RingRows, Tells};
+ghost use Rattle.analysis.specs.Laws.Judges.{Finished, Pronounces};
 
 use crate::{RingPlace, Share, Verdict};
 use settle::reach::reached;
@@ -19,7 +19,7 @@ pub struct Judgement {
 
 // The routines of the mask below n whose rows tell of a ring.
 fn ring_rows(model: &[u8], n: usize, mask: u64) -> u64
-    requires { (n ≤ most-routines) × (row-bytes * n ≤ length model.now) }
+    requires { (n ≤ most_routines) × (row_bytes * n ≤ length model.now) }
     ensures { RingRows model.now n mask result }
 {
     let mut rings = 0u64;
@@ -60,14 +60,14 @@ fn verdict_of(rings: u64, names: [u8; MOST_ROUTINES]) -> Verdict
 
 // How many routines a mask has.
 fn count(mask: u64) -> u64
-    ensures { (result ≡ ones mask) × (result ≤ most-routines) }
+    ensures { (result ≡ ones mask) × (result ≤ most_routines) }
 {
     u64::count_ones(mask) as u64
 }
 
 // The share of c in m: the whole percentage, what is left over of 100 × c, and m.
 fn share_of(c: u64, m: u64) -> Share
-    requires { (c ≤ most-routines) × (0 < m) }
+    requires { (c ≤ most_routines) × (0 < m) }
     ensures { Divided c m result }
 {
     Share {

@@ -1,10 +1,10 @@
 // The analysis: the least model of a table in a lent buffer, the verdict, the share, and the number of rounds.
 ghost use Rattle.std.specs.Prelude.{◌≡◌, ◌<◌};
-ghost use Rattle.table.specs.Check.{checkTable};
-ghost use Rattle.table.specs.Answer.{checkNumber, checkedOf};
+ghost use Rattle.table.specs.Check.{check_table};
+ghost use Rattle.table.specs.Answer.{check_number, checked_of};
 ghost use Rattle.analysis.specs.Answer.{Analysed, AnalysedAs, RoundsAs, Fits, Short};
-ghost use Rattle.analysis.specs.Answer.{verdictNumber};
-ghost use Rattle.analysis.specs.laws.Judges.{CanJudgeKnown, JudgesKnown, CanJudge, Judges};
+ghost use Rattle.analysis.specs.Answer.{verdict_number};
+ghost use Rattle.analysis.specs.Laws.Judges.{CanJudgeKnown, JudgesKnown, CanJudge, Judges};
 
 mod judging;
 
@@ -104,7 +104,7 @@ pub fn analyse(table: &[u8], model: &mut [u8]) -> Answer
 // The launcher's number of a verdict.
 fn verdict_number(v: Verdict) -> u64
     requires { Short v }
-    ensures { (result ≡ verdictNumber v) × (result < 4294967296) }
+    ensures { (result ≡ verdict_number v) × (result < 4294967296) }
 {
     match v {
         Verdict::Clear => 0,
@@ -137,7 +137,7 @@ pub extern "C" fn vangpear_rounds(table: &[u8], model: &mut [u8]) -> u32
 // Checks a whole table, for a caller in C: the refusal's number, or 65,536 × routines + items.
 #[unsafe(no_mangle)]
 pub extern "C" fn vangpear_check(table: &[u8]) -> u32
-    ensures { result ≡ checkNumber (checkedOf (checkTable table.now)) }
+    ensures { result ≡ check_number (checked_of (check_table table.now)) }
 {
     match check(table) {
         Checked::Accepted(routines, items) => (65536 * routines + items) as u32,

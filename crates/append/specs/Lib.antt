@@ -1,3 +1,3 @@
 -- Appending to a text in a lent buffer.
 pub mod Appends
-pub mod laws
+pub mod Laws

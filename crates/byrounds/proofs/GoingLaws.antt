@@ -9,34 +9,34 @@ use native.Mathlib.Omega.{arith}
 use native.Mathlib.Decide.{ℕ_discrete, dec_lt}
 use lib.Dec.{T, eqb, eqb→eq}
 use lib.ListN.{length, get_or}
-use Rattle.table.specs.Constants.{row-bytes}
+use Rattle.table.specs.Constants.{row_bytes}
 use Rattle.table.specs.Program.{Program, body}
-use Rattle.table.specs.laws.Sections.{routines, few}
+use Rattle.table.specs.Laws.Sections.{routines, few}
 use Rattle.rules.specs.Label.{several, cut}
 use Rattle.rules.specs.Model.{Model}
 use Rattle.rules.specs.Verdict.{Calls}
-use Rattle.rules.specs.laws.Least.{row-mono}
-use Rattle.rules.specs.laws.Tests.{halves}
+use Rattle.rules.specs.Laws.Least.{row-mono}
+use Rattle.rules.specs.Laws.Tests.{halves}
 use Rattle.grid.specs.Rows.{Has}
 use Rattle.rows.specs.Model.{Cleared}
-use Rattle.rows.specs.laws.Cells.{no_label}
+use Rattle.rows.specs.Laws.Cells.{no_label}
 use Rattle.rounds.specs.Rounds.{PairsIn, Changeless}
-use Rattle.rounds.specs.laws.Steps.{in-model, all_same}
-use Rattle.rounds.specs.laws.Bound.{changing-le}
+use Rattle.rounds.specs.Laws.Steps.{in_model, all_same}
+use Rattle.rounds.specs.Laws.Bound.{changing_le}
 use Rattle.settle.specs.Due.{All}
 use Rattle.settle.specs.Settle.{AllFresh}
 use Rattle.settle.specs.Bodies.{Linked}
 use Rattle.byrounds.specs.Round.{CellsAre, RowIs, At, Placed, RoundStart, RoundEnd, RoundReady}
 use Rattle.byrounds.specs.Round.{Rounded, CanPass, PassedOn, AllZero, CanBegin, RoundsDone}
-use Rattle.byrounds.proofs.RoundLaws.{cells-move, same-cells-are, steady-next, to-after, to-pairs, from-pairs}
+use Rattle.byrounds.proofs.RoundLaws.{cells_move, same_cells_are, steady_next, to_after, to_pairs, from_pairs}
 
 placed : (P : Program) (ks s starts callers : List ℕ) → Linked P ks s starts callers → Placed P ks s starts
-placed P ks s starts callers k = record { holds = k.holds; start = k.start; starts-long = k.starts-long }
+placed P ks s starts callers k = record { holds = k.holds; start = k.start; starts_long = k.starts_long }
 
 -- a row of zeros is the one before the first round
-zero-cells : (P : Program) (rows : List ℕ) (q : ℕ) → ((i : ℕ) → i < 65 → get_or rows (65 * q + i) 0 ≡ 0)
+zero_cells : (P : Program) (rows : List ℕ) (q : ℕ) → ((i : ℕ) → i < 65 → get_or rows (65 * q + i) 0 ≡ 0)
     → CellsAre P 0 rows q
-zero-cells P rows q z = record {
+zero_cells P rows q z = record {
   to = λ a b l w. absurd (no_label (get_or rows (65 * q + 8 * a + b) 0) l (at a b w.0 w.1) w.2);
   from = λ a b l w. absurd w.1;
 }
@@ -49,9 +49,9 @@ zero-cells P rows q z = record {
 zero_row : (P : Program) (model : List ℕ) (q : ℕ) → ((i : ℕ) → i < 65 → get_or model (65 * q + i) 0 ≡ 0)
     → RowIs P 0 model q
 zero_row P model q z = record {
-  cells = zero-cells P model q z;
-  ring-to = λ e. absurd (let y = z 64 (omega arith) in omega arith);
-  ring-from = λ w. absurd w.1;
+  cells = zero_cells P model q z;
+  ring_to = λ e. absurd (let y = z 64 (omega arith) in omega arith);
+  ring_from = λ w. absurd w.1;
   shaped = record {
     cells = λ i l. let e = z i (omega arith) in omega arith;
     last = let e = z 64 (omega arith) in omega arith;
@@ -61,7 +61,7 @@ zero_row P model q z = record {
 -- where the last round changed nothing, the rows are the model's
 module _ (P : Program) (i : ℕ) (still : Changeless P i) (before model names : List ℕ)
     (long : length model ≡ length before)
-    (rest : (k : ℕ) → row-bytes * length P ≤ k → get_or model k 0 ≡ get_or before k 0)
+    (rest : (k : ℕ) → row_bytes * length P ≤ k → get_or model k 0 ≡ get_or before k 0)
     (rows : (q : ℕ) → q < length P → At P (suc i) model names q) where
   -- they are those after i rounds
   cells : (q : ℕ) → q < length P → CellsAre P i model q
@@ -70,23 +70,23 @@ module _ (P : Program) (i : ℕ) (still : Changeless P i) (before model names : 
     from = λ a b l w. (rows q h).row.cells.from a b l ((still.cells q a b l).1 w);
   }
 
-  all-fresh : AllFresh P before model names
-  all-fresh = record {
+  all_fresh : AllFresh P before model names
+  all_fresh = record {
     long = long;
     rest = rest;
     shaped = λ q h. (rows q h).row.shaped;
-    sound = λ q a b l w. row-mono P (PairsIn P i) (Model P) (in-model P i) q a b l (to-after P i model cells q a b l w);
-    ring-sound = λ q h e.
-        let w = (rows q h).row.ring-to e in (w.0, in-model P (suc i) q w.0 w.0 several w.1);
+    sound = λ q a b l w. row-mono P (PairsIn P i) (Model P) (in_model P i) q a b l (to_after P i model cells q a b l w);
+    ring_sound = λ q h e.
+        let w = (rows q h).row.ring_to e in (w.0, in_model P (suc i) q w.0 w.0 several w.1);
     fresh = λ q h. record {
       row = λ a b m w ha hb ne.
-          let v = to-pairs P i model cells q a b m w in
+          let v = to_pairs P i model cells q a b m w in
           (h, (rows q h).row.cells.from a b (cut m) (m, v, ha, hb, ne, refl));
-      ring = λ x w. (rows q h).row.ring-from (x, to-pairs P i model cells q x x several w);
+      ring = λ x w. (rows q h).row.ring_from (x, to_pairs P i model cells q x x several w);
       name = record {
         ring = λ l.
-            from-pairs P i model cells q (get_or names q 0) (get_or names q 0) several ((rows q h).name.ring l);
-        lowest = λ y w. (rows q h).name.lowest y (to-pairs P i model cells q y y several w);
+            from_pairs P i model cells q (get_or names q 0) (get_or names q 0) several ((rows q h).name.ring l);
+        lowest = λ y w. (rows q h).name.lowest y (to_pairs P i model cells q y y several w);
       };
     };
   }
@@ -96,24 +96,24 @@ next_start : (P : Program) (i : ℕ) (old old' model names callers : List ℕ) (
     → ((r q : ℕ) → q < length P → Calls (body P q) r → Has (get_or callers r 0) q) → due < 2 ^ length P
     → RoundEnd P i old model names changed moved → PassedOn callers moved model old old' due
     → RoundStart P (suc i) old' model names due
-next_start P i old old' model names callers changed moved due callers-of below end pass = record {
-  old-cells = λ q h. old_row q h (ℕ_discrete (moved / 2 ^ q % 2) 1);
+next_start P i old old' model names callers changed moved due callers_of below end pass = record {
+  old_cells = λ q h. old_row q h (ℕ_discrete (moved / 2 ^ q % 2) 1);
   rows = end.rows;
-  steady = λ q h n. steady-next P i q (λ p c l. end.still p l (λ b. n (pass.callers-due p q b (callers-of p q h c))));
+  steady = λ q h n. steady_next P i q (λ p c l. end.still p l (λ b. n (pass.callers_due p q b (callers_of p q h c))));
   below = below;
 }
   where
     old_row : (q : ℕ) → q < length P → Dec (Has moved q) → CellsAre P (suc i) old' q
-    old_row q h (yes b) = cells-move P (suc i) model old' q (λ k l. pass.copied q k b l) (end.rows q h).row.cells
-    old_row q h (no n) = cells-move P (suc i) old old' q (λ k l. pass.kept q k n l)
-        (same-cells-are P i old q (end.still q h n) (end.old-cells q h))
+    old_row q h (yes b) = cells_move P (suc i) model old' q (λ k l. pass.copied q k b l) (end.rows q h).row.cells
+    old_row q h (no n) = cells_move P (suc i) old old' q (λ k l. pass.kept q k n l)
+        (same_cells_are P i old q (end.still q h n) (end.old_cells q h))
 
 -- what holds before each round: `done` were done, and each changed something
 pub record Going (ks s starts callers old₀ from old model names : List ℕ) (due done : ℕ) : Type 0 where
   pub long : length model ≡ length from
-  pub old-same : length old ≡ length old₀
-  pub names-long : length names ≡ 64
-  pub rest-same : (i : ℕ) → 65 * length ks ≤ i → get_or model i 0 ≡ get_or from i 0
+  pub old_same : length old ≡ length old₀
+  pub names_long : length names ≡ 64
+  pub rest_same : (i : ℕ) → 65 * length ks ≤ i → get_or model i 0 ≡ get_or from i 0
   pub told : (P : Program) → Linked P ks s starts callers → RoundStart P done old model names due
   pub changing : (P : Program) → Linked P ks s starts callers → (j : ℕ) → j < done → Changeless P j → ⊥
 
@@ -127,21 +127,21 @@ module _ (ks s starts callers old₀ from first : List ℕ) (start : AllZero ks 
   count : length ks ≡ length start.program
   count = routines start.program ks s start.linked.holds
 
-  pub few-routines : length ks ≤ 64
-  few-routines = few ks s (start.program, start.linked.holds)
+  pub few_routines : length ks ≤ 64
+  few_routines = few ks s (start.program, start.linked.holds)
 
   pub going_start : (due : ℕ) → All (length ks) due → Going ks s starts callers old₀ from old₀ from first due 0
   going_start due all = record {
     long = refl;
-    old-same = refl;
-    names-long = start.names-long;
-    rest-same = λ i h. refl;
+    old_same = refl;
+    names_long = start.names_long;
+    rest_same = λ i h. refl;
     told = λ P k.
         let e = routines P ks s k.holds in
         let c = count in
-        let f = few-routines in
+        let f = few_routines in
         record {
-          old-cells = λ q h. zero-cells P old₀ q (λ i l. start.old-zero (65 * q + i));
+          old_cells = λ q h. zero_cells P old₀ q (λ i l. start.old_zero (65 * q + i));
           rows = λ q h. record {
             row = zero_row P from q (λ i l. start.zero (65 * q + i) (omega arith));
             name = record {
@@ -157,28 +157,28 @@ module _ (ks s starts callers old₀ from first : List ℕ) (start : AllZero ks 
 
   module _ (old model names : List ℕ) (due done : ℕ)
       (go : Going ks s starts callers old₀ from old model names due done) where
-    pub few-done : done ≤ 148 * length ks
-    few-done =
+    pub few_done : done ≤ 148 * length ks
+    few_done =
         let e = count in
-        let h = changing-le start.program start.linked.holds.limits done
+        let h = changing_le start.program start.linked.holds.limits done
         (go.changing start.program start.linked) in
         omega arith
 
-    pub round-ready : RoundReady ks s starts due old model names
-    round-ready =
+    pub round_ready : RoundReady ks s starts due old model names
+    round_ready =
         let e = count in
         let l = start.long in
         let g = go.long in
-        let o = go.old-same in
-        let z = start.old-long in
+        let o = go.old_same in
+        let z = start.old_long in
         record {
           program = start.program;
           placed = placed start.program ks s starts callers start.linked;
           done = done;
           start = go.told start.program start.linked;
-          old-long = omega arith;
+          old_long = omega arith;
           long = omega arith;
-          names-long = go.names-long;
+          names_long = go.names_long;
         }
 
     module _ (model' names' : List ℕ) (changed : Bool) (moved : ℕ)
@@ -187,11 +187,11 @@ module _ (ks s starts callers old₀ from first : List ℕ) (start : AllZero ks 
       ended P k = round.told P done (placed P ks s starts callers k) (go.told P k)
 
       -- the round changed nothing: it is the last
-      pub last-round : changed ≡ false → RoundsDone ks s starts callers from model' names' (done + 1)
-      last-round e P k l =
+      pub last_round : changed ≡ false → RoundsDone ks s starts callers from model' names' (done + 1)
+      last_round e P k l =
           let n = routines P ks s k.holds in (
-            all-fresh P done still from model' names' (round.long ∙ go.long)
-                (λ i h. round.rest i (omega arith) ∙ go.rest-same i (omega arith)) (ended P k).rows,
+            all_fresh P done still from model' names' (round.long ∙ go.long)
+                (λ i h. round.rest i (omega arith) ∙ go.rest_same i (omega arith)) (ended P k).rows,
             record { before = done; number = omega arith; changeless = still; first = least },
           )
         where
@@ -205,49 +205,49 @@ module _ (ks s starts callers old₀ from first : List ℕ) (start : AllZero ks 
               at (yes h) = absurd (go.changing P k i h c)
               at (no h) = omega arith
 
-      pub can-pass : CanPass callers moved model' old
-      can-pass =
+      pub can_pass : CanPass callers moved model' old
+      can_pass =
           let e = count in
           let l = start.long in
           let g = go.long in
           let f = round.long in
           record {
             routines = length ks;
-            few = few-routines;
-            callers-below = rw count start.linked.callers-below;
+            few = few_routines;
+            callers_below = rw count start.linked.callers_below;
             below = rw count (ended start.program start.linked).below;
             long = omega arith;
-            old-long = let o = go.old-same in let z = start.old-long in omega arith;
+            old_long = let o = go.old_same in let z = start.old_long in omega arith;
           }
 
       -- it changed something: another follows
       module _ (some : changed ≡ true) (old' : List ℕ) (due' : ℕ) (pass : PassedOn callers moved model' old old' due')
         where
-          changed-too : (P : Program) → Linked P ks s starts callers → (j : ℕ) → j < suc done → Changeless P j → ⊥
-          changed-too P k j h c = at (ℕ_discrete j done)
+          changed_too : (P : Program) → Linked P ks s starts callers → (j : ℕ) → j < suc done → Changeless P j → ⊥
+          changed_too P k j h c = at (ℕ_discrete j done)
             where
               at : Dec (j ≡ done) → ⊥
               at (yes e) = (ended P k).other some (rw e at c)
               at (no n) = go.changing P k j (omega arith) c
 
-          pub next-round : Going ks s starts callers old₀ from old' model' names' due' (done + 1)
-          next-round = rw e (record {
+          pub next_round : Going ks s starts callers old₀ from old' model' names' due' (done + 1)
+          next_round = rw e (record {
             long = round.long ∙ go.long;
-            old-same = pass.long ∙ go.old-same;
-            names-long = round.names-long;
-            rest-same = λ i h. round.rest i h ∙ go.rest-same i h;
-            told = λ P k. next_start P done old old' model' names' callers changed moved due' k.callers-of
-                (pass.below (length P) k.callers-below) (ended P k) pass;
-            changing = changed-too;
+            old_same = pass.long ∙ go.old_same;
+            names_long = round.names_long;
+            rest_same = λ i h. round.rest i h ∙ go.rest_same i h;
+            told = λ P k. next_start P done old old' model' names' callers changed moved due' k.callers_of
+                (pass.below (length P) k.callers_below) (ended P k) pass;
+            changing = changed_too;
           })
             where
               e : done + 1 ≡ suc done
               e = omega arith
 
 -- a flag as code tests that it is not up
-pub flag-down : (b : Bool) → not b ≡ true → b ≡ false
-flag-down true e = absurd (let o : ◌≡◌ {A = ℕ} 0 1 = cc in omega arith)
-flag-down false e = refl
+pub flag_down : (b : Bool) → not b ≡ true → b ≡ false
+flag_down true e = absurd (let o : ◌≡◌ {A = ℕ} 0 1 = cc in omega arith)
+flag_down false e = refl
 
 pub flag_up : (b : Bool) → not b ≡ false → b ≡ true
 flag_up true e = refl
@@ -258,40 +258,40 @@ abbrev zeros? : List ℕ → Bool
 zeros? [] = true
 zeros? (x ∷ l) = let rest = zeros? l in eqb x 0 && rest
 
-zeros-at : (l : List ℕ) → T (zeros? l) → (i : ℕ) → get_or l i 0 ≡ 0
-zeros-at [] t i = refl
-zeros-at (x ∷ l) t zero = eqb→eq x 0 (halves (eqb x 0) (zeros? l) t).0
-zeros-at (x ∷ l) t (suc i) = zeros-at l (halves (eqb x 0) (zeros? l) t).1 i
+zeros_at : (l : List ℕ) → T (zeros? l) → (i : ℕ) → get_or l i 0 ≡ 0
+zeros_at [] t i = refl
+zeros_at (x ∷ l) t zero = eqb→eq x 0 (halves (eqb x 0) (zeros? l) t).0
+zeros_at (x ∷ l) t (suc i) = zeros_at l (halves (eqb x 0) (zeros? l) t).1 i
 
 module _ (ks s starts callers before names : List ℕ) (p : CanBegin ks s starts callers before names) where
-  pub few-rows : 65 * length ks ≤ 4160
-  few-rows = let f = few ks s (p.program, p.linked.holds) in omega arith
+  pub few_rows : 65 * length ks ≤ 4160
+  few_rows = let f = few ks s (p.program, p.linked.holds) in omega arith
 
   pub room : 65 * length ks ≤ length before
   room = let e = routines p.program ks s p.linked.holds in let l = p.long in omega arith
 
   -- cleared rows are those before the first round
-  pub all-zero : (cleared old : List ℕ) → Cleared 0 (65 * length ks) before cleared → 65 * length ks ≤ length old
+  pub all_zero : (cleared old : List ℕ) → Cleared 0 (65 * length ks) before cleared → 65 * length ks ≤ length old
       → T (zeros? old) → AllZero ks s starts callers old cleared names
-  all-zero cleared old k long none =
+  all_zero cleared old k long none =
       let e = routines p.program ks s p.linked.holds in
       let l = p.long in
       let g = k.long in
       record {
         program = p.program;
         linked = p.linked;
-        old-long = omega arith;
+        old_long = omega arith;
         long = omega arith;
-        names-long = p.names-long;
-        old-zero = zeros-at old none;
+        names_long = p.names_long;
+        old_zero = zeros_at old none;
         zero = λ i h. k.zero i (omega arith) (omega arith);
         no_name = p.no_name;
       }
 
   -- what was done from cleared rows was done from the buffer
-  pub done-from : (cleared after names' : List ℕ) (m : ℕ) → Cleared 0 (65 * length ks) before cleared
+  pub done_from : (cleared after names' : List ℕ) (m : ℕ) → Cleared 0 (65 * length ks) before cleared
       → RoundsDone ks s starts callers cleared after names' m → RoundsDone ks s starts callers before after names' m
-  done-from cleared after names' m k d P known l =
+  done_from cleared after names' m k d P known l =
       let e = routines P ks s known.holds in
       let g = k.long in
       let w = d P known (omega arith) in
@@ -301,7 +301,7 @@ module _ (ks s starts callers before names : List ℕ) (p : CanBegin ks s starts
           rest = λ i h. f.rest i h ∙ k.rest i (inr (omega arith));
           shaped = f.shaped;
           sound = f.sound;
-          ring-sound = f.ring-sound;
+          ring_sound = f.ring_sound;
           fresh = f.fresh;
         },
         w.1,

@@ -10,11 +10,11 @@ use lib.Seq.{get_or-set_same, get_or-set_other}
 use lib.Bits.{bit_or, or_lt}
 use lib.Pow.{pow_pos}
 use Rattle.grid.specs.Rows.{Has, Bits}
-use Rattle.grid.specs.laws.Masks.{has-zero, has_left, has_right, has-or}
-use Rattle.rows.specs.laws.Cells.{apart}
+use Rattle.grid.specs.Laws.Masks.{has_zero, has_left, has_right, has_or}
+use Rattle.rows.specs.Laws.Cells.{apart}
 use Rattle.settle.specs.Due.{Highest, Below}
-use Rattle.settle.specs.laws.Masks.{has-top}
-use Rattle.settle.specs.laws.Off.{inside, taken, rest, rest-bits, rest-less, rest_below}
+use Rattle.settle.specs.Laws.Masks.{has_top}
+use Rattle.settle.specs.Laws.Off.{inside, taken, rest, rest_bits, rest_less, rest_below}
 use Rattle.byrounds.specs.Round.{Copied, CanPass, PassedOn}
 
 -- the bytes of row r below i were copied
@@ -71,21 +71,21 @@ copied_all r i model before after h c = record {
 -- the cells of routine r can be copied, and it can be taken off the mask of those left
 pub record Chosen (callers model old : List ℕ) (left r : ℕ) : Type 0 where
   pub small : r < 64
-  pub caller-there : r < length callers
-  pub row-there : (65 * r + 64 ≤ length model) × (65 * r + 64 ≤ length old)
-  pub taken-off : (1 * 2 ^ r) % 18446744073709551616 ≤ left
+  pub caller_there : r < length callers
+  pub row_there : (65 * r + 64 ≤ length model) × (65 * r + 64 ≤ length old)
+  pub taken_off : (1 * 2 ^ r) % 18446744073709551616 ≤ left
   pub less : left - (1 * 2 ^ r) % 18446744073709551616 < left
 
 -- the cells of the mask that are not left were copied, and their callers are due
 pub record Passing (n : ℕ) (callers : List ℕ) (moved : ℕ) (model before after : List ℕ) (left due : ℕ) : Type 0 where
   pub long : length after ≡ length before
-  pub left-of : (q : ℕ) → Has left q → Has moved q
+  pub left_of : (q : ℕ) → Has left q → Has moved q
   pub left_below : left < 2 ^ n
   pub copied : (q j : ℕ) → Has moved q → (Has left q → ⊥) → j < 64
       → get_or after (65 * q + j) 0 ≡ get_or model (65 * q + j) 0
   pub kept : (q j : ℕ) → (Has moved q → ⊥) → j < 64 → get_or after (65 * q + j) 0 ≡ get_or before (65 * q + j) 0
-  pub callers-due : (q p : ℕ) → Has moved q → (Has left q → ⊥) → Has (get_or callers q 0) p → Has due p
-  pub only-callers : (p : ℕ) → Has due p → (q : ℕ) × Has moved q × Has (get_or callers q 0) p
+  pub callers_due : (q p : ℕ) → Has moved q → (Has left q → ⊥) → Has (get_or callers q 0) p → Has due p
+  pub only_callers : (p : ℕ) → Has due p → (q : ℕ) × Has moved q × Has (get_or callers q 0) p
   pub below : (m : ℕ) → Below callers m → due < 2 ^ m
 
 module _ (callers : List ℕ) (moved : ℕ) (model before : List ℕ) (can : CanPass callers moved model before) where
@@ -93,22 +93,22 @@ module _ (callers : List ℕ) (moved : ℕ) (model before : List ℕ) (can : Can
   abbrev pub n : ℕ
   n = can.routines
 
-  pub passing-start : Passing n callers moved model before before moved 0
-  passing-start = record {
+  pub passing_start : Passing n callers moved model before before moved 0
+  passing_start = record {
     long = refl;
-    left-of = λ q h. h;
+    left_of = λ q h. h;
     left_below = can.below;
     copied = λ q j h m l. absurd (m h);
     kept = λ q j h l. refl;
-    callers-due = λ q p h m l. absurd (m h);
-    only-callers = λ p h. absurd (has-zero p h);
+    callers_due = λ q p h m l. absurd (m h);
+    only_callers = λ p h. absurd (has_zero p h);
     below = λ m b. pow_pos m;
   }
 
   module _ (old : List ℕ) (left due r : ℕ) (go : Passing n callers moved model before old left due)
       (top : Highest left r) where
     pub here : Has left r
-    here = has-top left r top
+    here = has_top left r top
 
     listed : r < n
     listed = inside n left r can.few go.left_below here
@@ -118,59 +118,59 @@ module _ (callers : List ℕ) (moved : ℕ) (model before : List ℕ) (can : Can
         let i = listed in
         let f = can.few in
         let l = can.long in
-        let m = can.old-long in
+        let m = can.old_long in
         let e = go.long in
-        let c = can.callers-below.0 in
+        let c = can.callers_below.0 in
         record {
           small = omega arith;
-          caller-there = omega arith;
-          row-there = (omega arith, omega arith);
-          taken-off = taken n left r can.few go.left_below here;
-          less = rest-less n left r can.few go.left_below here;
+          caller_there = omega arith;
+          row_there = (omega arith, omega arith);
+          taken_off = taken n left r can.few go.left_below here;
+          less = rest_less n left r can.few go.left_below here;
         }
 
     -- the mask without r
     abbrev pub left' : ℕ
     left' = rest n left r can.few go.left_below here
 
-    pub passing-turn : (after : List ℕ) → Copied r model old after
+    pub passing_turn : (after : List ℕ) → Copied r model old after
         → Passing n callers moved model before after left' (bit_or due (get_or callers r 0))
-    passing-turn after c = record {
+    passing_turn after c = record {
       long = c.long ∙ go.long;
-      left-of = λ q h. go.left-of q (off.to q h).1;
+      left_of = λ q h. go.left_of q (off.to q h).1;
       left_below = rest_below n left r can.few go.left_below here;
       copied = λ q j h m l. copied q j h m l (ℕ_discrete q r);
-      kept = λ q j h l. c.outside q j (λ e. h (go.left-of q (rw e here))) l ∙ go.kept q j h l;
-      callers-due = λ q p h m w. callers-due q p h m w (ℕ_discrete q r);
-      only-callers = λ p h. ⊎_elim (go.only-callers p) (λ w. (r, go.left-of r here, w))
-          (has-or due (get_or callers r 0) p h);
+      kept = λ q j h l. c.outside q j (λ e. h (go.left_of q (rw e here))) l ∙ go.kept q j h l;
+      callers_due = λ q p h m w. callers_due q p h m w (ℕ_discrete q r);
+      only_callers = λ p h. ⊎_elim (go.only_callers p) (λ w. (r, go.left_of r here, w))
+          (has_or due (get_or callers r 0) p h);
       below = λ m b. or_lt m due (get_or callers r 0) (go.below m b) (b.1 r);
     }
       where
         off : Bits left' (λ j. (j ≢ r) × Has left j)
-        off = rest-bits n left r can.few go.left_below here
+        off = rest_bits n left r can.few go.left_below here
 
         copied : (q j : ℕ) → Has moved q → (Has left' q → ⊥) → j < 64
             → Dec (q ≡ r) → get_or after (65 * q + j) 0 ≡ get_or model (65 * q + j) 0
         copied q j h m l (yes e) = rw e (c.inside j l)
         copied q j h m l (no ne) = c.outside q j ne l ∙ go.copied q j h (λ b. m (off.from q (ne, b))) l
 
-        callers-due : (q p : ℕ) → Has moved q → (Has left' q → ⊥)
+        callers_due : (q p : ℕ) → Has moved q → (Has left' q → ⊥)
             → Has (get_or callers q 0) p → Dec (q ≡ r) → Has (bit_or due (get_or callers r 0)) p
-        callers-due q p h m w (yes e) = has_right due (get_or callers r 0) p (rw e at w)
-        callers-due q p h m w (no ne) =
-            has_left due (get_or callers r 0) p (go.callers-due q p h (λ b. m (off.from q (ne, b))) w)
+        callers_due q p h m w (yes e) = has_right due (get_or callers r 0) p (rw e at w)
+        callers_due q p h m w (no ne) =
+            has_left due (get_or callers r 0) p (go.callers_due q p h (λ b. m (off.from q (ne, b))) w)
 
-  pub passing-end : (old : List ℕ) (left due : ℕ) → left ≡ 0 → Passing n callers moved model before old left due
+  pub passing_end : (old : List ℕ) (left due : ℕ) → left ≡ 0 → Passing n callers moved model before old left due
       → PassedOn callers moved model before old due
-  passing-end old left due e go = record {
+  passing_end old left due e go = record {
     long = go.long;
     copied = λ q j h l. go.copied q j h (none q) l;
     kept = go.kept;
-    callers-due = λ q p h w. go.callers-due q p h (none q) w;
-    only-callers = go.only-callers;
+    callers_due = λ q p h w. go.callers_due q p h (none q) w;
+    only_callers = go.only_callers;
     below = go.below;
   }
     where
       none : (q : ℕ) → Has left q → ⊥
-      none q h = has-zero q (rw e at h)
+      none q h = has_zero q (rw e at h)

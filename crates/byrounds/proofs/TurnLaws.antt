@@ -10,22 +10,22 @@ use lib.ListN.{length, get_or, set, length-set}
 use lib.Seq.{get_or-set_same, get_or-set_other}
 use lib.Pow.{pow_pos}
 use Rattle.table.specs.Program.{Program}
-use Rattle.table.specs.laws.Sections.{routines, few}
+use Rattle.table.specs.Laws.Sections.{routines, few}
 use Rattle.grid.specs.Rows.{Has, Bits}
-use Rattle.grid.specs.laws.Masks.{has-zero}
+use Rattle.grid.specs.Laws.Masks.{has_zero}
 use Rattle.rows.specs.Model.{ShapedRow, Shaped}
 use Rattle.rounds.specs.Rounds.{Changeless}
-use Rattle.rounds.specs.laws.Steps.{SameRow, steady-same}
+use Rattle.rounds.specs.Laws.Steps.{SameRow, steady_same}
 use Rattle.settle.specs.Due.{Highest}
 use Rattle.settle.specs.Settle.{Improved}
 use Rattle.settle.specs.Bodies.{BodyOf, RowReady, Improves}
-use Rattle.settle.specs.laws.Masks.{has-top}
-use Rattle.settle.specs.laws.Off.{inside, taken, rest, rest-bits, rest-less, rest_below}
-use Rattle.settle.specs.laws.Off.{more, more-below, more-old, more-new}
+use Rattle.settle.specs.Laws.Masks.{has_top}
+use Rattle.settle.specs.Laws.Off.{inside, taken, rest, rest_bits, rest_less, rest_below}
+use Rattle.settle.specs.Laws.Off.{more, more_below, more_old, more_new}
 use Rattle.byrounds.specs.Round.{CellsAre, RowIs, At, SameCells, Placed, RoundStart, RoundReady}
 use Rattle.byrounds.specs.Round.{Rounded}
-use Rattle.byrounds.proofs.RoundLaws.{row-moves, steady-at, next_row, next-name, other-bytes}
-use Rattle.byrounds.proofs.RoundLaws.{told-still, told_same, told-other}
+use Rattle.byrounds.proofs.RoundLaws.{row_moves, steady_at, next_row, next_name, other_bytes}
+use Rattle.byrounds.proofs.RoundLaws.{told_still, told_same, told_other}
 
 -- the routines left have their rows after i rounds, and the others after i + 1; the flag tells whether one of those
 -- changed, and the mask has each of them with a cell that did
@@ -40,103 +40,103 @@ mid_start : (P : Program) (i : ℕ) (old model names : List ℕ) (due : ℕ) →
     → Mid P i model names due false 0
 mid_start P i old model names due st = record {
   waiting = λ q h b. st.rows q h;
-  done = λ q h n. steady-at P i q (st.steady q h n) model names (st.rows q h);
-  same = λ e q h n. steady-same P i q (st.steady q h n);
+  done = λ q h n. steady_at P i q (st.steady q h n) model names (st.rows q h);
+  same = λ e q h n. steady_same P i q (st.steady q h n);
   other = λ e. absurd (let o : ◌≡◌ {A = ℕ} 0 1 = cc in omega arith);
-  still = λ q h n m. (steady-same P i q (st.steady q h n)).cells;
+  still = λ q h n m. (steady_same P i q (st.steady q h n)).cells;
 }
 
-mid-shaped : (P : Program) (i : ℕ) (model names : List ℕ) (left : ℕ) (changed : Bool) (moved : ℕ)
+mid_shaped : (P : Program) (i : ℕ) (model names : List ℕ) (left : ℕ) (changed : Bool) (moved : ℕ)
     → Mid P i model names left changed moved → Shaped (length P) model
-mid-shaped P i model names left changed moved m q h = go (ℕ_discrete (left / 2 ^ q % 2) 1)
+mid_shaped P i model names left changed moved m q h = go (ℕ_discrete (left / 2 ^ q % 2) 1)
   where
     go : Dec (Has left q) → ShapedRow model q
     go (yes b) = (m.waiting q h b).row.shaped
     go (no n) = (m.done q h n).row.shaped
 
 -- three flags, none of which is up, or one of which is
-none-up : (a b c : Bool) → ((a || b) || c) ≡ false → (a ≡ false) × ((b || c) ≡ false)
-none-up false b c e = (refl, e)
-none-up true b c e = absurd (let o : ◌≡◌ {A = ℕ} 0 1 = cc in omega arith)
+none_up : (a b c : Bool) → ((a || b) || c) ≡ false → (a ≡ false) × ((b || c) ≡ false)
+none_up false b c e = (refl, e)
+none_up true b c e = absurd (let o : ◌≡◌ {A = ℕ} 0 1 = cc in omega arith)
 
 one_up : (a b c : Bool) → ((a || b) || c) ≡ true → (a ≡ true) ⊎ ((b || c) ≡ true)
 one_up false b c e = inr e
 one_up true b c e = inl refl
 
 -- a turn: routine r is worked out
-module _ (P : Program) (i : ℕ) (old : List ℕ) (old-cells : (q : ℕ) → q < length P → CellsAre P i old q)
+module _ (P : Program) (i : ℕ) (old : List ℕ) (old_cells : (q : ℕ) → q < length P → CellsAre P i old q)
     (model after names : List ℕ) (left : ℕ) (changed : Bool) (moved r : ℕ) (cells last : Bool) (x : ℕ)
     (lt : r < length P) (imp : Improved P old model after r cells last x) (m : Mid P i model names left changed moved)
     (here : Has left r) (place : r < length names) where
   was : At P i model names r
   was = m.waiting r lt here
 
-  now-row : RowIs P (suc i) after r
-  now-row = next_row P i old old-cells model after r cells last x lt imp
-      (mid-shaped P i model names left changed moved m) was.row
+  now_row : RowIs P (suc i) after r
+  now_row = next_row P i old old_cells model after r cells last x lt imp
+      (mid_shaped P i model names left changed moved m) was.row
 
-  now-at : At P (suc i) after (set names r x) r
-  now-at = record {
-    row = now-row;
-    name = rw (get_or-set_same names r x 0 place) (next-name P i old old-cells model after r cells last x lt imp);
+  now_at : At P (suc i) after (set names r x) r
+  now_at = record {
+    row = now_row;
+    name = rw (get_or-set_same names r x 0 place) (next_name P i old old_cells model after r cells last x lt imp);
   }
 
   keeps : (j q : ℕ) → q ≢ r → At P j model names q → At P j after (set names r x) q
   keeps j q ne a = record {
-    row = row-moves P j model after q
-        (λ k l. other-bytes P i old old-cells model after r cells last x lt imp q k ne l) a.row;
+    row = row_moves P j model after q
+        (λ k l. other_bytes P i old old_cells model after r cells last x lt imp q k ne l) a.row;
     name = rw (get_or-set_other names r q x 0 ne) a.name;
   }
 
   -- the masks afterwards
   module _ (left' moved' : ℕ) (off : Bits left' (λ j. (j ≢ r) × Has left j))
       (old-moved : (q : ℕ) → Has moved q → Has moved' q) (new-moved : cells ≡ true → Has moved' r) where
-    mid-turn : Mid P i after (set names r x) left' ((changed || cells) || last) moved'
-    mid-turn = record {
+    mid_turn : Mid P i after (set names r x) left' ((changed || cells) || last) moved'
+    mid_turn = record {
       waiting = λ q h b. keeps i q (off.to q b).0 (m.waiting q h (off.to q b).1);
       done = λ q h n. done q h n (ℕ_discrete q r);
-      same = λ e q h n. same (none-up changed cells last e) q h n (ℕ_discrete q r);
+      same = λ e q h n. same (none_up changed cells last e) q h n (ℕ_discrete q r);
       other = λ e c. ⊎_elim (λ z. m.other z c)
-          (λ z. told-other P i old old-cells model after r cells last x lt imp was.row now-row z c)
+          (λ z. told_other P i old old_cells model after r cells last x lt imp was.row now_row z c)
           (one_up changed cells last e);
       still = λ q h n k. still q h n k (ℕ_discrete q r);
     }
       where
         done : (q : ℕ) → q < length P → (Has left' q → ⊥) → Dec (q ≡ r) → At P (suc i) after (set names r x) q
-        done q h n (yes e) = subst (At P (suc i) after (set names r x)) (sym e) now-at
+        done q h n (yes e) = subst (At P (suc i) after (set names r x)) (sym e) now_at
         done q h n (no ne) = keeps (suc i) q ne (m.done q h (λ b. n (off.from q (ne, b))))
 
         same : (changed ≡ false) × ((cells || last) ≡ false) → (q : ℕ) → q < length P → (Has left' q → ⊥)
             → Dec (q ≡ r) → SameRow P i q
         same z q h n (yes e) = subst (SameRow P i) (sym e)
-            (told_same P i old old-cells model after r cells last x lt imp was.row now-row z.1)
+            (told_same P i old old_cells model after r cells last x lt imp was.row now_row z.1)
         same z q h n (no ne) = m.same z.0 q h (λ b. n (off.from q (ne, b)))
 
-        at-r : (d : Bool) → cells ≡ d → (Has moved' r → ⊥) → SameCells P i r
-        at-r false e k = told-still P i old old-cells model after r cells last x lt imp was.row now-row e
-        at-r true e k = absurd (k (new-moved e))
+        at_r : (d : Bool) → cells ≡ d → (Has moved' r → ⊥) → SameCells P i r
+        at_r false e k = told_still P i old old_cells model after r cells last x lt imp was.row now_row e
+        at_r true e k = absurd (k (new-moved e))
 
         still : (q : ℕ) → q < length P → (Has left' q → ⊥) → (Has moved' q → ⊥) → Dec (q ≡ r) → SameCells P i q
-        still q h n k (yes e) = subst (SameCells P i) (sym e) (at-r cells refl (λ b. k (rw e b)))
+        still q h n k (yes e) = subst (SameCells P i) (sym e) (at_r cells refl (λ b. k (rw e b)))
         still q h n k (no ne) = m.still q h (λ b. n (off.from q (ne, b))) (λ b. k (old-moved q b))
 
 -- routine r can be worked out and taken off the mask of those left
 pub record Chosen (ks s starts old model names : List ℕ) (left r : ℕ) : Type 0 where
   pub small : r < 64
-  pub taken-off : (1 * 2 ^ r) % 18446744073709551616 ≤ left
+  pub taken_off : (1 * 2 ^ r) % 18446744073709551616 ≤ left
   pub less : left - (1 * 2 ^ r) % 18446744073709551616 < left
-  pub start-there : r < length starts
-  pub name-there : r < length names
+  pub start_there : r < length starts
+  pub name_there : r < length names
   pub ready : RowReady ks s (get_or starts r 0) r old model
 
 -- what holds at each turn of the loop
 pub record Midway (ks s starts : List ℕ) (due : ℕ) (old before first model names : List ℕ) (left : ℕ)
     (changed : Bool) (moved : ℕ) : Type 0 where
   pub long : length model ≡ length before
-  pub names-long : length names ≡ 64
-  pub rest-same : (i : ℕ) → 65 * length ks ≤ i → get_or model i 0 ≡ get_or before i 0
+  pub names_long : length names ≡ 64
+  pub rest_same : (i : ℕ) → 65 * length ks ≤ i → get_or model i 0 ≡ get_or before i 0
   pub left_below : left < 2 ^ length ks
-  pub moved-below : moved < 2 ^ length ks
+  pub moved_below : moved < 2 ^ length ks
   pub told : (P : Program) (i : ℕ) → Placed P ks s starts → RoundStart P i old before first due
       → Mid P i model names left changed moved
 
@@ -145,29 +145,29 @@ module _ (ks s starts : List ℕ) (due : ℕ) (old before first : List ℕ)
   count : length ks ≡ length ready.program
   count = routines ready.program ks s ready.placed.holds
 
-  pub few-routines : length ks ≤ 64
-  few-routines = few ks s (ready.program, ready.placed.holds)
+  pub few_routines : length ks ≤ 64
+  few_routines = few ks s (ready.program, ready.placed.holds)
 
   pub midway_start : Midway ks s starts due old before first before first due false 0
   midway_start = record {
     long = refl;
-    names-long = ready.names-long;
-    rest-same = λ i h. refl;
+    names_long = ready.names_long;
+    rest_same = λ i h. refl;
     left_below = rw count ready.start.below;
-    moved-below = pow_pos (length ks);
+    moved_below = pow_pos (length ks);
     told = λ P i k st. mid_start P i old before first due st;
   }
 
   module _ (model names : List ℕ) (left : ℕ) (changed : Bool) (moved r : ℕ)
       (mid : Midway ks s starts due old before first model names left changed moved) (top : Highest left r) where
     pub bit : Has left r
-    bit = has-top left r top
+    bit = has_top left r top
 
     listed : r < length ks
-    listed = inside (length ks) left r few-routines mid.left_below bit
+    listed = inside (length ks) left r few_routines mid.left_below bit
 
-    names-there : r < length names
-    names-there = let b = listed in let f = few-routines in let e = mid.names-long in omega arith
+    names_there : r < length names
+    names_there = let b = listed in let f = few_routines in let e = mid.names_long in omega arith
 
     at_body : (P : Program) → Placed P ks s starts → BodyOf P ks s (get_or starts r 0) r
     at_body P k =
@@ -176,8 +176,8 @@ module _ (ks s starts : List ℕ) (due : ℕ) (old before first : List ℕ)
         let l : r < length P = omega arith in
         record { holds = k.holds; listed = l; starts = k.start r l }
 
-    row-ready : RowReady ks s (get_or starts r 0) r old model
-    row-ready =
+    row_ready : RowReady ks s (get_or starts r 0) r old model
+    row_ready =
         let P = ready.program in
         let b = at_body P ready.placed in
         let l = ready.long in
@@ -186,33 +186,33 @@ module _ (ks s starts : List ℕ) (due : ℕ) (old before first : List ℕ)
         record {
           program = P;
           body_of = b;
-          rows_long = ready.old-long;
+          rows_long = ready.old_long;
           long = omega arith;
-          shaped = mid-shaped P ready.done model names left changed moved m r b.listed;
+          shaped = mid_shaped P ready.done model names left changed moved m r b.listed;
         }
 
     pub chosen : Chosen ks s starts old model names left r
     chosen =
         let b = listed in
-        let f = few-routines in
+        let f = few_routines in
         let e = count in
-        let n = ready.placed.starts-long in
+        let n = ready.placed.starts_long in
         record {
           small = omega arith;
-          taken-off = taken (length ks) left r few-routines mid.left_below bit;
-          less = rest-less (length ks) left r few-routines mid.left_below bit;
-          start-there = omega arith;
-          name-there = names-there;
-          ready = row-ready;
+          taken_off = taken (length ks) left r few_routines mid.left_below bit;
+          less = rest_less (length ks) left r few_routines mid.left_below bit;
+          start_there = omega arith;
+          name_there = names_there;
+          ready = row_ready;
         }
 
     -- the mask of those left, without r
     abbrev left' : ℕ
-    left' = rest (length ks) left r few-routines mid.left_below bit
+    left' = rest (length ks) left r few_routines mid.left_below bit
 
     -- the mask of those moved, with r
     abbrev moved' : ℕ
-    moved' = more (length ks) left r few-routines mid.left_below bit moved mid.moved-below
+    moved' = more (length ks) left r few_routines mid.left_below bit moved mid.moved_below
 
     module _ (after : List ℕ) (cells last : Bool) (x : ℕ)
         (imp : Improves ks s (get_or starts r 0) r old model after cells last x)
@@ -222,30 +222,30 @@ module _ (ks s starts : List ℕ) (due : ℕ) (old before first : List ℕ)
           → Midway ks s starts due old before first after (set names r x) left' ((changed || cells) || last) moved''
       turn moved'' low f g = record {
         long = same_length ∙ mid.long;
-        names-long = length-set names r x ∙ mid.names-long;
-        rest-same = λ i h.
+        names_long = length-set names r x ∙ mid.names_long;
+        rest_same = λ i h.
             let b = listed in
             (imp ready.program (at_body ready.program ready.placed)).added.outside i (inr (omega arith))
-            ∙ mid.rest-same i h;
-        left_below = rest_below (length ks) left r few-routines mid.left_below bit;
-        moved-below = low;
+            ∙ mid.rest_same i h;
+        left_below = rest_below (length ks) left r few_routines mid.left_below bit;
+        moved_below = low;
         told = λ P i k st.
             let b = at_body P k in
-            mid-turn P i old st.old-cells model after names left changed moved r cells last x b.listed (imp P b)
-            (mid.told P i k st) bit names-there left' moved''
-            (rest-bits (length ks) left r few-routines mid.left_below bit) f g;
+            mid_turn P i old st.old_cells model after names left changed moved r cells last x b.listed (imp P b)
+            (mid.told P i k st) bit names_there left' moved''
+            (rest_bits (length ks) left r few_routines mid.left_below bit) f g;
       }
 
       pub turn_moved : Midway ks s starts due old before first after (set names r x) left'
           ((changed || cells) || last) moved'
       turn_moved = turn moved'
-          (more-below (length ks) left r few-routines mid.left_below bit moved mid.moved-below)
-          (more-old (length ks) left r few-routines mid.left_below bit moved mid.moved-below)
-          (λ z. more-new (length ks) left r few-routines mid.left_below bit moved mid.moved-below)
+          (more_below (length ks) left r few_routines mid.left_below bit moved mid.moved_below)
+          (more_old (length ks) left r few_routines mid.left_below bit moved mid.moved_below)
+          (λ z. more_new (length ks) left r few_routines mid.left_below bit moved mid.moved_below)
 
-      pub turn-still : cells ≡ false
+      pub turn_still : cells ≡ false
           → Midway ks s starts due old before first after (set names r x) left' ((changed || cells) || last) moved
-      turn-still e = turn moved mid.moved-below (λ q h. h)
+      turn_still e = turn moved mid.moved_below (λ q h. h)
           (λ z. absurd (let o : ◌≡◌ {A = ℕ} 0 1 = cc in omega arith))
 
   -- none is left
@@ -254,20 +254,20 @@ module _ (ks s starts : List ℕ) (due : ℕ) (old before first : List ℕ)
       → Rounded ks s starts due old before model first names changed moved
   midway_end model names left changed moved e mid = record {
     long = mid.long;
-    names-long = mid.names-long;
-    rest = mid.rest-same;
+    names_long = mid.names_long;
+    rest = mid.rest_same;
     told = λ P i k st.
         let m = mid.told P i k st in
         let n = routines P ks s k.holds in
         record {
-          old-cells = st.old-cells;
+          old_cells = st.old_cells;
           rows = λ q h. m.done q h (none q);
           same = λ z q h. m.same z q h (none q);
           other = m.other;
           still = λ q h f. m.still q h (none q) f;
-          below = rw n at mid.moved-below;
+          below = rw n at mid.moved_below;
         };
   }
     where
       none : (q : ℕ) → Has left q → ⊥
-      none q h = has-zero q (rw e at h)
+      none q h = has_zero q (rw e at h)

@@ -1,15 +1,15 @@
 -- One round over the buffer: rows that are those after j rounds, what the round leaves, and what is passed on to the
 -- next.
 use Rattle.std.specs.Prelude.{◌≡◌, ◌≢◌, Bool, true, false, List, ℕ, suc, ◌+◌, ◌*◌, ◌^◌, ◌≤◌, ◌<◌, length, get_or}
-use Rattle.table.specs.Constants.{most-routines, most-names, row-cells, row-bytes}
+use Rattle.table.specs.Constants.{most_routines, most_names, row_cells, row_bytes}
 use Rattle.table.specs.Program.{Program}
-use Rattle.table.specs.laws.Sections.{Holds}
+use Rattle.table.specs.Laws.Sections.{Holds}
 use Rattle.rules.specs.Label.{Label, several}
 use Rattle.grid.specs.Rows.{Has}
 use Rattle.rows.specs.Bytes.{RowBits, RingByte}
 use Rattle.rows.specs.Model.{ShapedRow}
 use Rattle.rounds.specs.Rounds.{PairsIn, RowsAfter, RingAfter, Changeless, Rounds}
-use Rattle.rounds.specs.laws.Steps.{Steady, SameRow}
+use Rattle.rounds.specs.Laws.Steps.{Steady, SameRow}
 use Rattle.settle.specs.Due.{Below}
 use Rattle.settle.specs.Settle.{AllFresh}
 use Rattle.settle.specs.Bodies.{Linked, start_of}
@@ -22,14 +22,14 @@ pub record CellsAre (P : Program) (j : ℕ) (rows : List ℕ) (q : ℕ) : Type 0
 -- the row of routine q in the buffer is the one after j rounds
 pub record RowIs (P : Program) (j : ℕ) (model : List ℕ) (q : ℕ) : Type 0 where
   pub cells : CellsAre P j model q
-  pub ring-to : RingByte model q → RingAfter P j q
-  pub ring-from : RingAfter P j q → RingByte model q
+  pub ring_to : RingByte model q → RingAfter P j q
+  pub ring_from : RingAfter P j q → RingByte model q
   pub shaped : ShapedRow model q
 
 -- x is the lowest name with a ring that round j works out for routine q, or 16 where there is none
 pub record NamedIn (P : Program) (j q x : ℕ) : Type 0 where
-  pub ring : x < most-names → PairsIn P j q x x several
-  pub lowest : (y : ℕ) → PairsIn P j q y y several → (x ≤ y) × (x < most-names)
+  pub ring : x < most_names → PairsIn P j q x x several
+  pub lowest : (y : ℕ) → PairsIn P j q y y several → (x ≤ y) × (x < most_names)
 
 -- the row and the ring name of routine q are those after j rounds
 pub record At (P : Program) (j : ℕ) (model names : List ℕ) (q : ℕ) : Type 0 where
@@ -44,11 +44,11 @@ SameCells P i q = (a b : ℕ) (l : Label) → RowsAfter P (suc i) q a b l → Ro
 pub record Placed (P : Program) (ks s starts : List ℕ) : Type 0 where
   pub holds : Holds P ks s
   pub start : (r : ℕ) → r < length P → get_or starts r 0 ≡ start_of P r
-  pub starts-long : length starts ≡ length P
+  pub starts_long : length starts ≡ length P
 
 -- i rounds are done, and the next has nothing new for a routine that is not due
 pub record RoundStart (P : Program) (i : ℕ) (old model names : List ℕ) (due : ℕ) : Type 0 where
-  pub old-cells : (q : ℕ) → q < length P → CellsAre P i old q
+  pub old_cells : (q : ℕ) → q < length P → CellsAre P i old q
   pub rows : (q : ℕ) → q < length P → At P i model names q
   pub steady : (q : ℕ) → q < length P → (Has due q → ⊥) → Steady P i q
   pub below : due < 2 ^ length P
@@ -56,7 +56,7 @@ pub record RoundStart (P : Program) (i : ℕ) (old model names : List ℕ) (due 
 -- round i + 1 is done too: the flag tells whether it changed anything, and the mask has each routine with a cell that
 -- it changed
 pub record RoundEnd (P : Program) (i : ℕ) (old model names : List ℕ) (changed : Bool) (moved : ℕ) : Type 0 where
-  pub old-cells : (q : ℕ) → q < length P → CellsAre P i old q
+  pub old_cells : (q : ℕ) → q < length P → CellsAre P i old q
   pub rows : (q : ℕ) → q < length P → At P (suc i) model names q
   pub same : changed ≡ false → (q : ℕ) → q < length P → SameRow P i q
   pub other : changed ≡ true → Changeless P i → ⊥
@@ -69,67 +69,67 @@ pub record RoundReady (ks s starts : List ℕ) (due : ℕ) (old model names : Li
   pub placed : Placed program ks s starts
   pub done : ℕ
   pub start : RoundStart program done old model names due
-  pub old-long : row-bytes * length program ≤ length old
-  pub long : row-bytes * length program ≤ length model
-  pub names-long : length names ≡ most-routines
+  pub old_long : row_bytes * length program ≤ length old
+  pub long : row_bytes * length program ≤ length model
+  pub names_long : length names ≡ most_routines
 
 -- a round was done
 pub record Rounded (ks s starts : List ℕ) (due : ℕ) (old before after names names' : List ℕ) (changed : Bool)
     (moved : ℕ) : Type 0 where
   pub long : length after ≡ length before
-  pub names-long : length names' ≡ most-routines
-  pub rest : (i : ℕ) → row-bytes * length ks ≤ i → get_or after i 0 ≡ get_or before i 0
+  pub names_long : length names' ≡ most_routines
+  pub rest : (i : ℕ) → row_bytes * length ks ≤ i → get_or after i 0 ≡ get_or before i 0
   pub told : (P : Program) (i : ℕ) → Placed P ks s starts → RoundStart P i old before names due
       → RoundEnd P i old after names' changed moved
 
 -- the cells of row r, and no other cells, were copied from the model
 pub record Copied (r : ℕ) (model before after : List ℕ) : Type 0 where
   pub long : length after ≡ length before
-  pub inside : (j : ℕ) → j < row-cells → get_or after (row-bytes * r + j) 0 ≡ get_or model (row-bytes * r + j) 0
-  pub outside : (q j : ℕ) → q ≢ r → j < row-cells
-      → get_or after (row-bytes * q + j) 0 ≡ get_or before (row-bytes * q + j) 0
+  pub inside : (j : ℕ) → j < row_cells → get_or after (row_bytes * r + j) 0 ≡ get_or model (row_bytes * r + j) 0
+  pub outside : (q j : ℕ) → q ≢ r → j < row_cells
+      → get_or after (row_bytes * q + j) 0 ≡ get_or before (row_bytes * q + j) 0
 
 -- the cells of the mask can be passed on: their rows are there, and no mask has a routine beyond those
 pub record CanPass (callers : List ℕ) (moved : ℕ) (model old : List ℕ) : Type 0 where
   pub routines : ℕ
-  pub few : routines ≤ most-routines
-  pub callers-below : Below callers routines
+  pub few : routines ≤ most_routines
+  pub callers_below : Below callers routines
   pub below : moved < 2 ^ routines
-  pub long : row-bytes * routines ≤ length model
-  pub old-long : row-bytes * routines ≤ length old
+  pub long : row_bytes * routines ≤ length model
+  pub old_long : row_bytes * routines ≤ length old
 
 -- the cells of the mask were copied, and its callers, and no others, are due
 pub record PassedOn (callers : List ℕ) (moved : ℕ) (model before after : List ℕ) (due : ℕ) : Type 0 where
   pub long : length after ≡ length before
-  pub copied : (q j : ℕ) → Has moved q → j < row-cells
-      → get_or after (row-bytes * q + j) 0 ≡ get_or model (row-bytes * q + j) 0
-  pub kept : (q j : ℕ) → (Has moved q → ⊥) → j < row-cells
-      → get_or after (row-bytes * q + j) 0 ≡ get_or before (row-bytes * q + j) 0
-  pub callers-due : (q p : ℕ) → Has moved q → Has (get_or callers q 0) p → Has due p
-  pub only-callers : (p : ℕ) → Has due p → (q : ℕ) × Has moved q × Has (get_or callers q 0) p
+  pub copied : (q j : ℕ) → Has moved q → j < row_cells
+      → get_or after (row_bytes * q + j) 0 ≡ get_or model (row_bytes * q + j) 0
+  pub kept : (q j : ℕ) → (Has moved q → ⊥) → j < row_cells
+      → get_or after (row_bytes * q + j) 0 ≡ get_or before (row_bytes * q + j) 0
+  pub callers_due : (q p : ℕ) → Has moved q → Has (get_or callers q 0) p → Has due p
+  pub only_callers : (p : ℕ) → Has due p → (q : ℕ) × Has moved q × Has (get_or callers q 0) p
   pub below : (n : ℕ) → Below callers n → due < 2 ^ n
 
 -- all rows and ring names are those before the first round
 pub record AllZero (ks s starts callers old model names : List ℕ) : Type 0 where
   pub program : Program
   pub linked : Linked program ks s starts callers
-  pub old-long : row-bytes * length program ≤ length old
-  pub long : row-bytes * length program ≤ length model
-  pub names-long : length names ≡ most-routines
-  pub old-zero : (i : ℕ) → get_or old i 0 ≡ 0
-  pub zero : (i : ℕ) → i < row-bytes * length program → get_or model i 0 ≡ 0
-  pub no_name : (q : ℕ) → q < most-routines → get_or names q 0 ≡ most-names
+  pub old_long : row_bytes * length program ≤ length old
+  pub long : row_bytes * length program ≤ length model
+  pub names_long : length names ≡ most_routines
+  pub old_zero : (i : ℕ) → get_or old i 0 ≡ 0
+  pub zero : (i : ℕ) → i < row_bytes * length program → get_or model i 0 ≡ 0
+  pub no_name : (q : ℕ) → q < most_routines → get_or names q 0 ≡ most_names
 
 -- the rows can be worked out, and no ring name is known
 pub record CanBegin (ks s starts callers model names : List ℕ) : Type 0 where
   pub program : Program
   pub linked : Linked program ks s starts callers
-  pub long : row-bytes * length program ≤ length model
-  pub names-long : length names ≡ most-routines
-  pub no_name : (q : ℕ) → q < most-routines → get_or names q 0 ≡ most-names
+  pub long : row_bytes * length program ≤ length model
+  pub names_long : length names ≡ most_routines
+  pub no_name : (q : ℕ) → q < most_routines → get_or names q 0 ≡ most_names
 
 -- the rounds were done: the rows are the model's, the list has the ring names, and m is the number of rounds
 abbrev pub RoundsDone : List ℕ → List ℕ → List ℕ → List ℕ → List ℕ → List ℕ → List ℕ → ℕ → Type 0
 RoundsDone ks s starts callers before after names m =
-    (P : Program) → Linked P ks s starts callers → row-bytes * length P ≤ length before
+    (P : Program) → Linked P ks s starts callers → row_bytes * length P ≤ length before
     → AllFresh P before after names × Rounds P m

@@ -1,6 +1,6 @@
 // The rows of the least model, worked out in rounds, each from what the one before left; and how many these are.
 ghost use Rattle.std.specs.Prelude.{◌+◌, ◌*◌, ◌≤◌, length};
-ghost use Rattle.table.specs.Constants.{row-cells, row-bytes};
+ghost use Rattle.table.specs.Constants.{row_cells, row_bytes};
 ghost use Rattle.settle.specs.Bodies.{RowReady, Improves};
 ghost use Rattle.byrounds.specs.Round.{RoundReady, Rounded, Copied, CanPass, PassedOn, AllZero, CanBegin};
 ghost use Rattle.byrounds.specs.Round.{RoundsDone};
@@ -68,7 +68,7 @@ fn round(
 
 // Copies the cells of row r.
 fn copy_cells(model: &[u8], r: usize, old: &mut [u8])
-    requires { (row-bytes * r + row-cells ≤ length model.now) × (row-bytes * r + row-cells ≤ length old.old) }
+    requires { (row_bytes * r + row_cells ≤ length model.now) × (row_bytes * r + row_cells ≤ length old.old) }
     ensures { Copied r model.now old.old old.new }
 {
     let start = ROW_BYTES * r;

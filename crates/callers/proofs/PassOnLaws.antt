@@ -30,8 +30,8 @@ use Rattle.steps.specs.declared.thread.Thread.{Thread as Record}
 use Rattle.steps.specs.contracts.thread.Thread as T
 use Rattle.steps.proofs.thread.Thread.TheLaws as T'
 use Rattle.runner.proofs.ParamLaws.{spelled₃, told₃}
-use Rattle.runner.proofs.WalkLaws.{slice-typed, allocated, freed, reads, span, called-last, Terms, triple, ends}
-use Rattle.runner.proofs.WalkLaws.{tablesAt, cite, by-walk}
+use Rattle.runner.proofs.WalkLaws.{slice_typed, allocated, freed, reads, span, called_last, Terms, triple, ends}
+use Rattle.runner.proofs.WalkLaws.{tables_at, cite, by_walk}
 use Rattle.runner.specs.contracts.run_schedule as run-schedule
 
 -- the function's code, where the callee is g and the result is of the type R
@@ -72,20 +72,20 @@ module _ {M : Type 1} {𝓤 : Ura M} (𝓛 : Logic 𝓤) (R : RattleType)
       → Closed 𝓤 H (tables 𝓤 H 𝓜 𝓡 γ).C (tables 𝓤 H 𝓜 𝓡 γ).Λ k (passing g R) → γ g ≡ c
       → Triple 𝓤 (𝓡.run c) (triple 𝓛 promise) → Triple 𝓤 (𝓡.run (γ k)) (triple 𝓛 promise)
   passed_on 𝓜 𝓡 γ k g typed closed called met =
-      by-walk 𝓛 𝓜 𝓡 γ promise k (passing g R) closed spelled₃ told₃ (λ κs qs bounds a h are.
-      let 𝓣 = tablesAt 𝓛 𝓜 𝓡 γ in
+      by_walk 𝓛 𝓜 𝓡 γ promise k (passing g R) closed spelled₃ told₃ (λ κs qs bounds a h are.
+      let 𝓣 = tables_at 𝓛 𝓜 𝓡 γ in
       let Ts = types_at (run-schedule.signature).params κs in
       let y : (triple 𝓛 promise).Ghost = ((κs, qs, bounds, a, valss Ts (spelled₃ κs) a), h) in
       let fits = are.1.1.0.0.1.0 in
       qed 𝓛 (raw ((triple 𝓛 promise).pre y) ∷ []) ∵ enter ! 𝓣.C 𝓣.Λ (passing g R) _ _ $
-      allocated ! _ (λ bs. params1 ! $ pass1 ! (init ! 2 refl (slice-typed are.0.0.1.0)) $
-      pass1 ! (init ! 4 refl (slice-typed are.1.0.0.1.0)) $ pass1 ! (init ! 6 refl (slice-typed fits)) $
+      allocated ! _ (λ bs. params1 ! $ pass1 ! (init ! 2 refl (slice_typed are.0.0.1.0)) $
+      pass1 ! (init ! 4 refl (slice_typed are.1.0.0.1.0)) $ pass1 ! (init ! 6 refl (slice_typed fits)) $
       -- [the locals: 12 entries; what is had at entry]: the records are made out anew
       pass0 ! $ assigns ! (addr ! (from ! (fld ! refl (hop ! (look_in ! 6 (sub ! 0 refl (whole !))) (stop !)))))
       (from ! (stop !)) (init ! 8 refl (tt, tt)) $ assigns ! (agg ! (and_then ! (reads ! 8 refl)
       (and_then ! (load ! (from ! (fld ! refl (stop !))) (look_in ! 6 (sub ! 1 refl (whole !)))) (no_more !))))
-      (from ! (stop !)) (init ! 10 refl (slice-typed fits)) $ move ! (12 ∷ []) $
-      called-last ! 𝓣 promise (cite 𝓛 𝓜 𝓡 γ called met) y (id⊢ 𝓤 _) (and_then ! (reads ! 3 refl)
+      (from ! (stop !)) (init ! 10 refl (slice_typed fits)) $ move ! (12 ∷ []) $
+      called_last ! 𝓣 promise (cite 𝓛 𝓜 𝓡 γ called met) y (id⊢ 𝓤 _) (and_then ! (reads ! 3 refl)
       (and_then ! (reads ! 5 refl) (and_then ! (reads ! 11 refl) (no_more !))))
       (λ r ws. φ a.0.now a.1.0.now a.1.1.0.now ws.1.1.0 r) (λ r ws. id⊢ 𝓤 _) (λ u r ws kept is.
       -- [what the result owns; the tokens; the last records; the locals]

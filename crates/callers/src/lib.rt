@@ -1,7 +1,7 @@
 // The public calls, on whatever is lent: one that had a precondition, or that promised less, would be refused here.
 ghost use Rattle.std.specs.Prelude.{◌≡◌, ◌≤◌, false};
-ghost use Rattle.table.specs.Check.{checkTable};
-ghost use Rattle.table.specs.Answer.{checkNumber, checkedOf};
+ghost use Rattle.table.specs.Check.{check_table};
+ghost use Rattle.table.specs.Answer.{check_number, checked_of};
 ghost use Rattle.analysis.specs.Answer.{Analysed, AnalysedAs, RoundsAs, Fits};
 ghost use Rattle.dearest.specs.Written.{Written as ChainWritten};
 ghost use Rattle.listing.specs.Text.{Listed};
@@ -24,7 +24,7 @@ use writer::{Written, canonical, vangpear_canonical};
 
 // Calls `check`.
 pub fn checked(table: &[u8]) -> Checked
-    ensures { result ≡ checkedOf (checkTable table.now) }
+    ensures { result ≡ checked_of (check_table table.now) }
 {
     check(table)
 }
@@ -48,7 +48,7 @@ pub fn listed(table: &[u8], model: &mut [u8], out: &mut [u8]) -> usize
 
 // Calls `vangpear_check`.
 pub fn checked_for_c(table: &[u8]) -> u32
-    ensures { result ≡ checkNumber (checkedOf (checkTable table.now)) }
+    ensures { result ≡ check_number (checked_of (check_table table.now)) }
 {
     vangpear_check(table)
 }
@@ -69,14 +69,14 @@ pub fn rounds_for_c(table: &[u8], model: &mut [u8]) -> u32
 
 // Calls `run_fresh`, which lends records to `run_schedule`.
 pub fn ran(table: &[u8], schedule: &[u8], n: usize) -> Desk
-    ensures { RunsFresh (checkTable table.now) schedule.now n result }
+    ensures { RunsFresh (check_table table.now) schedule.now n result }
 {
     run_fresh(table, schedule, n)
 }
 
 // Calls `run_schedule`.
 pub fn ran_schedule(table: &[u8], schedule: &[u8], records: &mut [Thread]) -> Ran
-    ensures { Runs (checkTable table.now) schedule.now records.old
+    ensures { Runs (check_table table.now) schedule.now records.old
         records.new result }
 {
     run_schedule(table, schedule, records)
@@ -84,7 +84,7 @@ pub fn ran_schedule(table: &[u8], schedule: &[u8], records: &mut [Thread]) -> Ra
 
 // Calls `vangpear_run`.
 pub fn ran_for_c(table: &[u8], schedule: &[u8], records: &mut [Thread]) -> Report
-    ensures { Reports (checkTable table.now) schedule.now records.old
+    ensures { Reports (check_table table.now) schedule.now records.old
         records.new result }
 {
     vangpear_run(table, schedule, records)

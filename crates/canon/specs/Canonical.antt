@@ -5,7 +5,7 @@ use Rattle.std.proofs.Math.ListN.{get_elem?}
 use Rattle.table.specs.Program.{Code, end, new, lock, fork, choice, call, mirror, Routine, Program, empty}
 use Rattle.table.specs.Program.{params, body}
 use Rattle.table.specs.Check.{in?}
-use Rattle.table.specs.Encoding.{encodeTable}
+use Rattle.table.specs.Encoding.{encode_table}
 use Rattle.rules.specs.Model.{bind}
 use Rattle.rules.specs.Verdict.{Reached}
 
@@ -24,19 +24,19 @@ abbrev pub met : List ℕ → ℕ → List ℕ
 met s r = cond (in? r s) s (s ++ (r ∷ []))
 
 -- the routines s, and after them those of the list that are not among them, as first met
-abbrev pub allMet : List ℕ → List ℕ → List ℕ
-allMet s [] = s
-allMet s (r ∷ rs) = allMet (met s r) rs
+abbrev pub all_met : List ℕ → List ℕ → List ℕ
+all_met s [] = s
+all_met s (r ∷ rs) = all_met (met s r) rs
 
 -- the routines that the calls of a routine name, if there is one
-abbrev pub calledBy : Program → Option ℕ → List ℕ
-calledBy P none = []
-calledBy P (some r) = called (body P r)
+abbrev pub called_by : Program → Option ℕ → List ℕ
+called_by P none = []
+called_by P (some r) = called (body P r)
 
 -- the routines met, in order, once the bodies with the new numbers below i are read
 unfoldable pub found : Program → ℕ → List ℕ
 found P zero = 0 ∷ []
-found P (suc i) = allMet (found P i) (calledBy P (get_elem? (found P i) i))
+found P (suc i) = all_met (found P i) (called_by P (get_elem? (found P i) i))
 
 -- the routines in the order in which they are first met: a routine's new number is its place in this list
 unfoldable pub order : Program → List ℕ
@@ -95,8 +95,8 @@ unfoldable pub canonical : Program → Program
 canonical P = map (λ r. rewritten (place P) (get_or P r empty)) (order P)
 
 -- the canonical table of a program: the bytes of its canonical program
-abbrev pub canonicalTable : Program → List ℕ
-canonicalTable P = encodeTable (canonical P)
+abbrev pub canonical_table : Program → List ℕ
+canonical_table P = encode_table (canonical P)
 
 -- P and Q differ only in the order of routines after 0, in unreached routines or in mirrors: reached routine r of P is
 -- routine `to r` of Q, and their bodies are equal once resolved and renumbered

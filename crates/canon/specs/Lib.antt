@@ -1,3 +1,3 @@
 -- The one way to write a table, and what is proved of it.
 pub mod Canonical
-pub mod laws
+pub mod Laws

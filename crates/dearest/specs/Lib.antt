@@ -1,3 +1,3 @@
 -- What the writer of the dearest chain leaves, and what follows from it.
 pub mod Written
-pub mod laws
+pub mod Laws

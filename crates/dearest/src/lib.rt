@@ -1,10 +1,10 @@
 // The dearest chain: the table of n routines that needs n + 1 rounds, written into a lent buffer.
 ghost use Rattle.std.specs.Prelude.{◌≡◌, ◌+◌, ◌≤◌, ◌<◌};
-ghost use Rattle.table.specs.Constants.{most-routines, END as closed-by-END};
+ghost use Rattle.table.specs.Constants.{most_routines, END as closed-by-END};
 ghost use Rattle.table.specs.Program.{end, lock, body};
-ghost use Rattle.table.specs.Encoding.{encode, encodeBodies, counts};
+ghost use Rattle.table.specs.Encoding.{encode, encode_bodies, counts};
 ghost use Rattle.append.specs.Appends.{Appends};
-ghost use Rattle.rounds.specs.Chain.{params_of, passing, opposing, chain, chainTable};
+ghost use Rattle.rounds.specs.Chain.{params_of, passing, opposing, chain, chain_table};
 ghost use Rattle.dearest.specs.Written.{Written};
 
 use append::{put, put_byte};
@@ -28,7 +28,7 @@ fn params_of(r: usize) -> u8
 
 // Appends the parameter counts of n routines.
 fn put_counts(out: &mut [u8], at: usize, n: usize) -> usize
-    requires { (at ≤ 1) × (n ≤ most-routines) }
+    requires { (at ≤ 1) × (n ≤ most_routines) }
     ensures { Appends at (counts (chain n)) out.old out.new result }
 {
     let mut p = at;
@@ -68,7 +68,7 @@ fn put_opposing(out: &mut [u8], at: usize) -> usize
 
 // Appends the body of routine r of n.
 fn put_body(out: &mut [u8], at: usize, r: usize, n: usize) -> usize
-    requires { (at < 2000) × (r < n) × (n ≤ most-routines) }
+    requires { (at < 2000) × (r < n) × (n ≤ most_routines) }
     ensures appends { Appends at (encode closed-by-END (body (chain n) r)) out.old out.new result }
     ensures few { result ≤ at + 17 }
 {
@@ -81,8 +81,8 @@ fn put_body(out: &mut [u8], at: usize, r: usize, n: usize) -> usize
 
 // Appends the bodies of n routines.
 fn put_bodies(out: &mut [u8], at: usize, n: usize) -> usize
-    requires { (at < 100) × (n ≤ most-routines) }
-    ensures { Appends at (encodeBodies (chain n)) out.old out.new result }
+    requires { (at < 100) × (n ≤ most_routines) }
+    ensures { Appends at (encode_bodies (chain n)) out.old out.new result }
 {
     let mut p = at;
     for r in 0..n {
@@ -94,8 +94,8 @@ fn put_bodies(out: &mut [u8], at: usize, n: usize) -> usize
 
 // Writes the table of the chain of n routines.
 fn put_table(out: &mut [u8], n: usize) -> usize
-    requires { (1 ≤ n) × (n ≤ most-routines) }
-    ensures { Appends 0 (chainTable n) out.old out.new result }
+    requires { (1 ≤ n) × (n ≤ most_routines) }
+    ensures { Appends 0 (chain_table n) out.old out.new result }
 {
     let size = PASSING_BYTES * (n - 1) + OPPOSING_BYTES;
     let a = put_byte(out, 0, n as u8);

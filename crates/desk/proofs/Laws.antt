@@ -15,8 +15,8 @@ pub take_whole : (n : ℕ) (xs : List ℕ) → n ≤ length xs → n ≡ length 
 take_whole n xs l = sym (length-take-le n xs l)
 
 -- a number of 64 bits has at most 20 digits
-pub few-digits : (n k : ℕ) → n < 2 ^ 64 → (1 < k → 10 ^ (k - 1) ≤ n) → k ≤ 20
-few-digits n k l h = elim (dec_lt 20 k) [
+pub few_digits : (n k : ℕ) → n < 2 ^ 64 → (1 < k → 10 ^ (k - 1) ≤ n) → k ≤ 20
+few_digits n k l h = elim (dec_lt 20 k) [
   | yes m ↦
       let p : 10 ^ 20 ≤ 10 ^ (k - 1) = pow-le-pow_right {n = 10} (omega arith) {i = 20} {j = k - 1} (omega arith) in
       let q : 10 ^ (k - 1) ≤ n = h (omega arith) in

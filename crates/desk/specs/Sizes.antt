@@ -6,9 +6,9 @@ abbrev pub word_bytes : ℕ
 word_bytes = 8
 
 -- a space and a number
-abbrev pub number-bytes : ℕ
-number-bytes = 1 + 20
+abbrev pub number_bytes : ℕ
+number_bytes = 1 + 20
 
 -- a line: two words, three numbers with a space before each, and the line's end
-abbrev pub line-bytes : ℕ
-line-bytes = 2 * word_bytes + 3 * number-bytes + 1
+abbrev pub line_bytes : ℕ
+line_bytes = 2 * word_bytes + 3 * number_bytes + 1

@@ -1,7 +1,7 @@
 // The lines of an answer, each of them written out by itself.
 ghost use Rattle.std.specs.Prelude.{◌≡◌, ◌+◌, ◌≤◌, length};
 ghost use Rattle.io.specs.Counts.{IsPrefixLen};
-ghost use Rattle.desk.specs.Sizes.{line-bytes, number-bytes, word_bytes};
+ghost use Rattle.desk.specs.Sizes.{line_bytes, number_bytes, word_bytes};
 
 use libc::STDOUT_FILENO;
 
@@ -16,9 +16,9 @@ const LINE: usize = 2 * WORD + 3 * (1 + DIGITS) + 1;
 
 // Appends the bytes of w, for which there is room.
 fn put(out: &mut [u8; LINE], at: usize, w: &[u8]) -> usize
-    requires { (length out.old ≡ line-bytes) × (at + length w.now ≤ line-bytes) }
+    requires { (length out.old ≡ line_bytes) × (at + length w.now ≤ line_bytes) }
     ensures value { (result ≡ at + length w.now) × IsPrefixLen result out.new }
-    ensures same { length out.new ≡ line-bytes }
+    ensures same { length out.new ≡ line_bytes }
 {
     let mut i: usize = 0;
     while i < w.len() {
@@ -31,9 +31,9 @@ fn put(out: &mut [u8; LINE], at: usize, w: &[u8]) -> usize
 
 // Appends a space and then n as a decimal number.
 fn put_number(out: &mut [u8; LINE], at: usize, n: u64) -> usize
-    requires { (length out.old ≡ line-bytes) × (at + number-bytes ≤ line-bytes) }
-    ensures upper_bound { result ≤ at + number-bytes }
-    ensures same { length out.new ≡ line-bytes }
+    requires { (length out.old ≡ line_bytes) × (at + number_bytes ≤ line_bytes) }
+    ensures upper_bound { result ≤ at + number_bytes }
+    ensures same { length out.new ≡ line_bytes }
 {
     let mut digits = [0u8; DIGITS];
     let k = io::decimal(n, &mut digits);

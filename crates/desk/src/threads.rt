@@ -1,6 +1,6 @@
 // What a run leaves of its threads: where each one stands, which locks it holds and which one it waits for.
 ghost use Rattle.std.specs.Prelude.{◌≡◌};
-ghost use Rattle.desk.specs.Holds.{heldBy};
+ghost use Rattle.desk.specs.Holds.{held_by};
 
 use crate::bytes::{least, number_at};
 use crate::places::routine_at;
@@ -13,7 +13,7 @@ use table::scope::{size, wide};
 
 // How many times a thread holds the lock l.
 fn held(t: Thread, l: u8) -> u64
-    ensures { result ≡ heldBy t l }
+    ensures { result ≡ held_by t l }
 {
     let n = least(t.depth, MOST_FRAMES);
     let mut c: u64 = 0;

@@ -9,16 +9,16 @@ use Rattle.rules.specs.Label.{Label, own, forked, unknown, several, combine}
 use Rattle.rules.specs.Number.{number, label_of, labels}
 use Rattle.rules.specs.Model.{Kept}
 use Rattle.rules.specs.Derived.{Closed, given, follows}
-use Rattle.rules.specs.laws.Number.{label-of-number, number_lt}
+use Rattle.rules.specs.Laws.Number.{label_of_number, number_lt}
 use Rattle.grid.specs.Rows.{Has, Edge, SomeRow, Walk, Same, Bits}
 use Rattle.grid.specs.Grid.{cell, Pair, Small, AllKept, Closure}
 use Rattle.grid.specs.Planes.{Labelled, RowLabels, Sole, PlanesOf, Within, Plane, MixOf, SeveralOf}
 use Rattle.grid.specs.Planes.{Grown, InPlane, InWalks, InPlanes, Follows}
-use Rattle.grid.specs.laws.Walks.{Of, Any, Mix, Mixed, Says, walk-back, star-back, first, says, said, walked}
-use Rattle.grid.specs.laws.Masks.{has-zero}
-use Rattle.grid.specs.laws.Labels.{in-has, in-range, keeps, not-several}
-use Rattle.grid.proofs.Relations.{same-walk}
-use Rattle.grid.proofs.Growing.{grown-none, grown-then, grown-map}
+use Rattle.grid.specs.Laws.Walks.{Of, Any, Mix, Mixed, Says, walk_back, star_back, first, says, said, walked}
+use Rattle.grid.specs.Laws.Masks.{has_zero}
+use Rattle.grid.specs.Laws.Labels.{in_has, in_range, keeps, not_several}
+use Rattle.grid.proofs.Relations.{same_walk}
+use Rattle.grid.proofs.Growing.{grown_none, grown_then, grown-map}
 
 -- each pair that follows from kept pairs is kept
 closed-kept :
@@ -28,41 +28,41 @@ closed-kept G k (given {a = a} {b = b} {l = l} w) = k a b l w
 closed-kept G k (follows p q e w) = w
 
 -- a pair of the grid is a pair of its label's plane, backwards
-pair-edge : (g : List (List ℕ)) (l : Label) (a b : ℕ) → Pair g a b l → Labelled g (number l) b a
-pair-edge g l a b w = in-has (cell g a b) l w
+pair_edge : (g : List (List ℕ)) (l : Label) (a b : ℕ) → Pair g a b l → Labelled g (number l) b a
+pair_edge g l a b w = in_has (cell g a b) l w
 
 -- r is g with what follows from its pairs, which are kept
 module _ (g r : List (List ℕ)) (grown : Grown g (Follows g) r) (kept : AllKept g) where
   -- each pair that was added follows
-  follows-closed : (a b n : ℕ) → Follows g a b n → Closed (Pair g) a b (label_of n)
-  follows-closed a b n (inl w) =
+  follows_closed : (a b n : ℕ) → Follows g a b n → Closed (Pair g) a b (label_of n)
+  follows_closed a b n (inl w) =
       let h = w.0 in
-      let v = walk-back {S = Of (Pair g) (label_of n)} (λ i j x. (n, omega arith, refl, x)) w.1.1 in
+      let v = walk_back {S = Of (Pair g) (label_of n)} (λ i j x. (n, omega arith, refl, x)) w.1.1 in
       walked (Pair g) (label_of n) (keeps n h) v (λ x. w.1.0 (sym x))
-  follows-closed a b n (inr w) = rw w.0 (said (Pair g) several w.1)
+  follows_closed a b n (inr w) = rw w.0 (said (Pair g) several w.1)
 
   -- each pair of r follows
   only : (a b : ℕ) (l : Label) → Pair r a b l → Closed (Pair g) a b l
   only a b l w =
       ⊎_elim
       (λ u. given (w.0, w.1, w.2, u))
-      (λ u. rw w.2 (follows-closed a b w.0 u))
+      (λ u. rw w.2 (follows_closed a b w.0 u))
       ((grown.row a).to b w.0 w.3)
 
   -- a walk of a named label is in r
-  walk-told : (n a b : ℕ) → n < number unknown → a ≢ b → Walk (Labelled g n) b a → Has (cell r a b) n
-  walk-told n a b h d w = (grown.row a).from b n (inr (inl (h, (λ x. d (sym x), w))))
+  walk_told : (n a b : ℕ) → n < number unknown → a ≢ b → Walk (Labelled g n) b a → Has (cell r a b) n
+  walk_told n a b h d w = (grown.row a).from b n (inr (inl (h, (λ x. d (sym x), w))))
 
   -- what a label says is in r
   told : (l : Label) (a b : ℕ) → Says (Pair g) l a b → Pair r a b l
-  told own a b w = (0, omega arith, refl, walk-told 0 a b (omega arith) w.0 (walk-back (pair-edge g own) w.1))
+  told own a b w = (0, omega arith, refl, walk_told 0 a b (omega arith) w.0 (walk_back (pair_edge g own) w.1))
   told (forked i) a b w =
       let f = first w.1 in
-      let h = in-range (cell g a f.0) (forked i) f.1 in (
+      let h = in_range (cell g a f.0) (forked i) f.1 in (
         i,
         omega arith,
-        sym (label-of-number (forked i) h),
-        walk-told i a b (omega arith) w.0 (walk-back (pair-edge g (forked i)) w.1),
+        sym (label_of_number (forked i) h),
+        walk_told i a b (omega arith) w.0 (walk_back (pair_edge g (forked i)) w.1),
       )
   told unknown a b w = (w.0, w.1, w.2, (grown.row a).from b w.0 (inl w.3))
   told several a b w = (number several, omega arith, refl, (grown.row a).from b (number several) (inr (inr (refl, w))))
@@ -78,51 +78,51 @@ module _ (g r : List (List ℕ)) (grown : Grown g (Follows g) r) (kept : AllKept
 -- p is the planes of g
 module _ (g p : List (List ℕ)) (planes : PlanesOf g p) where
   -- the label of a pair has a number
-  pair-number : (l : Label) (a b : ℕ) → Pair g a b l → number l < labels
-  pair-number l a b w = number_lt l (in-range (cell g a b) l w)
+  pair_number : (l : Label) (a b : ℕ) → Pair g a b l → number l < labels
+  pair_number l a b w = number_lt l (in_range (cell g a b) l w)
 
   -- the pairs of the grid are those of the planes, backwards
-  edge-pair : (l b a : ℕ) → l < labels → Edge (get_or p l []) b a → Pair g a b (label_of l)
-  edge-pair l b a h e = (l, h, refl, (planes l h).to b a e)
+  edge_pair : (l b a : ℕ) → l < labels → Edge (get_or p l []) b a → Pair g a b (label_of l)
+  edge_pair l b a h e = (l, h, refl, (planes l h).to b a e)
 
-  plane-edge : (l : Label) (a b : ℕ) → Pair g a b l → Edge (get_or p (number l) []) b a
-  plane-edge l a b w = (planes (number l) (pair-number l a b w)).from b a (pair-edge g l a b w)
+  plane_edge : (l : Label) (a b : ℕ) → Pair g a b l → Edge (get_or p (number l) []) b a
+  plane_edge l a b w = (planes (number l) (pair_number l a b w)).from b a (pair_edge g l a b w)
 
   -- and so are the pairs of any label, the mixes, and the mixes with walks
-  any-to : (b a : ℕ) → Plane p b a → Any (Pair g) a b
-  any-to b a w = (label_of w.0, edge-pair w.0 b a w.1 w.2)
+  any_to : (b a : ℕ) → Plane p b a → Any (Pair g) a b
+  any_to b a w = (label_of w.0, edge_pair w.0 b a w.1 w.2)
 
-  any-from : (a b : ℕ) → Any (Pair g) a b → Plane p b a
-  any-from a b w = (number w.0, pair-number w.0 a b w.1, plane-edge w.0 a b w.1)
+  any_from : (a b : ℕ) → Any (Pair g) a b → Plane p b a
+  any_from a b w = (number w.0, pair_number w.0 a b w.1, plane_edge w.0 a b w.1)
 
-  mix-to : (b a : ℕ) → MixOf p b a → Mix (Pair g) a b
-  mix-to b a (inl e) = inl (edge-pair (number several) b a (omega arith) e)
-  mix-to b a (inr w) =
+  mix_to : (b a : ℕ) → MixOf p b a → Mix (Pair g) a b
+  mix_to b a (inl e) = inl (edge_pair (number several) b a (omega arith) e)
+  mix_to b a (inr w) =
       let v = w.2 in
       let u = v.2 in
-      let later = edge-pair w.0 b v.0 w.1 v.1 in
-      let first = edge-pair u.0 v.0 a u.1 u.3 in
+      let later = edge_pair w.0 b v.0 w.1 v.1 in
+      let first = edge_pair u.0 v.0 a u.1 u.3 in
       inr (v.0, label_of u.0, label_of w.0, first, later, u.2)
 
-  mix-from : (a b : ℕ) → Mix (Pair g) a b → MixOf p b a
-  mix-from a b (inl w) = inl (plane-edge several a b w)
-  mix-from a b (inr w) =
+  mix_from : (a b : ℕ) → Mix (Pair g) a b → MixOf p b a
+  mix_from a b (inl w) = inl (plane_edge several a b w)
+  mix_from a b (inr w) =
       let y = w.0 in
       let l = w.1 in
       let m = w.2 in
       let e : combine (label_of (number l)) (label_of (number m)) ≡ several =
       rw
-      (label-of-number l (in-range (cell g a y) l w.3), label-of-number m (in-range (cell g y b) m w.4))
+      (label_of_number l (in_range (cell g a y) l w.3), label_of_number m (in_range (cell g y b) m w.4))
       w.5 in
-      let later = plane-edge m y b w.4 in
-      let first = plane-edge l a y w.3 in
-      inr (number m, pair-number m y b w.4, (y, later, (number l, pair-number l a y w.3, e, first)))
+      let later = plane_edge m y b w.4 in
+      let first = plane_edge l a y w.3 in
+      inr (number m, pair_number m y b w.4, (y, later, (number l, pair_number l a y w.3, e, first)))
 
-  mixed-to : (b a : ℕ) → SeveralOf p b a → Mixed (Pair g) a b
-  mixed-to b a w = (w.1, w.0, star-back any-to w.4, mix-to w.0 w.1 w.3, star-back any-to w.2)
+  mixed_to : (b a : ℕ) → SeveralOf p b a → Mixed (Pair g) a b
+  mixed_to b a w = (w.1, w.0, star_back any_to w.4, mix_to w.0 w.1 w.3, star_back any_to w.2)
 
-  mixed-from : (a b : ℕ) → Mixed (Pair g) a b → SeveralOf p b a
-  mixed-from a b w = (w.1, w.0, star-back any-from w.4, mix-from w.0 w.1 w.3, star-back any-from w.2)
+  mixed_from : (a b : ℕ) → Mixed (Pair g) a b → SeveralOf p b a
+  mixed_from a b w = (w.1, w.0, star_back any_from w.4, mix_from w.0 w.1 w.3, star_back any_from w.2)
 
   -- what the named planes and then several add is what follows
   pub all_grown :
@@ -131,12 +131,12 @@ module _ (g p : List (List ℕ)) (planes : PlanesOf g p) where
   all_grown n r s mixes named last =
       grown-map
       (λ a b k. ⊎_elim
-      (λ w. let h = w.0 in inr (inl (h, (w.1.0, (same-walk _ _ (planes k (omega arith))).to b a w.1.1))))
-      (λ w. inr (inr (w.0, mixed-to b a (mixes.to b a w.1)))))
+      (λ w. let h = w.0 in inr (inl (h, (w.1.0, (same_walk _ _ (planes k (omega arith))).to b a w.1.1))))
+      (λ w. inr (inr (w.0, mixed_to b a (mixes.to b a w.1)))))
       (λ a b k. ⊎_elim
-      (λ w. let h = w.0 in inr (inl (h, (w.1.0, (same-walk _ _ (planes k (omega arith))).from b a w.1.1))))
-      (λ w. inr (inr (w.0, mixes.from b a (mixed-from a b w.1)))))
-      (grown-then named last)
+      (λ w. let h = w.0 in inr (inl (h, (w.1.0, (same_walk _ _ (planes k (omega arith))).from b a w.1.1))))
+      (λ w. inr (inr (w.0, mixes.from b a (mixed_from a b w.1)))))
+      (grown_then named last)
 
 -- the labels of all pairs have each plane that relates names
 pub within :
@@ -151,30 +151,30 @@ module _ (g : List (List ℕ)) (u : List ℕ) (c l : ℕ) (rows : Same (Edge u) 
   labelled : (m : Label) (a b : ℕ) → Pair g a b m → m ≡ label_of l
   labelled m a b w = w.2 ∙ ap label_of (sole named w.0 (bits.from w.0 (a, rows.from a w.0 (b, w.3))))
 
-  no-mix : (a b : ℕ) → Mix (Pair g) a b → ⊥
-  no-mix a b (inl w) = not-several l named (sym (labelled several a b w))
-  no-mix a b (inr w) =
+  no_mix : (a b : ℕ) → Mix (Pair g) a b → ⊥
+  no_mix a b (inl w) = not_several l named (sym (labelled several a b w))
+  no_mix a b (inr w) =
       let e = rw (labelled w.1 a w.0 w.3, labelled w.2 w.0 b w.4) at w.5 in
-      not-several l named (sym (keeps l named) ∙ e)
+      not_several l named (sym (keeps l named) ∙ e)
 
-  only-walks : (a b k : ℕ) → Follows g a b k → InWalks (Labelled g l) l a b k
-  only-walks a b k (inl w) =
+  only_walks : (a b k : ℕ) → Follows g a b k → InWalks (Labelled g l) l a b k
+  only_walks a b k (inl w) =
       let f = first w.1.1 in
       let e : k ≡ l = sole named k (bits.from k (f.0, rows.from f.0 k (b, f.1))) in
       (e, rw e at w.1)
-  only-walks a b k (inr w) = absurd (no-mix _ _ w.1.3)
+  only_walks a b k (inr w) = absurd (no_mix _ _ w.1.3)
 
-  pub one-grown : (r : List (List ℕ)) → Grown g (InWalks (Labelled g l) l) r → Grown g (Follows g) r
-  one-grown r last =
+  pub one_grown : (r : List (List ℕ)) → Grown g (InWalks (Labelled g l) l) r → Grown g (Follows g) r
+  one_grown r last =
       grown-map
       (λ a b k w. inr (inl (rw w.0 (named, w.1))))
-      (λ a b k w. inr (only-walks a b k w))
+      (λ a b k w. inr (only_walks a b k w))
       last
 
 -- nothing follows where there is no pair
 pub none-grown :
     (g : List (List ℕ)) (u : List ℕ) → Same (Edge u) (RowLabels g) → Bits 0 (SomeRow u) → Grown g (Follows g) g
 none-grown g u rows bits =
-    one-grown g u 0 0 rows bits (omega arith) (λ h j e. absurd (has-zero j e)) g
-    (grown-none
-    (λ a b k w. let f = first w.1.1 in has-zero 0 (bits.from 0 (f.0, rows.from f.0 0 (b, f.1)))))
+    one_grown g u 0 0 rows bits (omega arith) (λ h j e. absurd (has_zero j e)) g
+    (grown_none
+    (λ a b k w. let f = first w.1.1 in has_zero 0 (bits.from 0 (f.0, rows.from f.0 0 (b, f.1)))))

@@ -11,13 +11,13 @@ use Rattle.rules.specs.Number.{labels}
 use Rattle.grid.specs.Rows.{Has, Rel, Edge, Or, Less, Apart, Walk, Same}
 use Rattle.grid.specs.Grid.{cell, Small}
 use Rattle.grid.specs.Planes.{PlaneIn, Grown, InPlane, InWalks, InPlanes}
-use Rattle.grid.specs.laws.Masks.{has-below, below-bits}
-use Rattle.grid.specs.laws.Walks.{first}
-use Rattle.grid.proofs.Relations.{same-walk, below_split}
+use Rattle.grid.specs.Laws.Masks.{has_below, below_bits}
+use Rattle.grid.specs.Laws.Walks.{first}
+use Rattle.grid.proofs.Relations.{same_walk, below_split}
 
 -- nothing is added
-pub grown-none : {g : List (List ℕ)} {F : ℕ → Rel} → ((a b k : ℕ) → F a b k → ⊥) → Grown g F g
-grown-none n = record {
+pub grown_none : {g : List (List ℕ)} {F : ℕ → Rel} → ((a b k : ℕ) → F a b k → ⊥) → Grown g F g
+grown_none n = record {
   row = λ a. record {
     to = λ b k p. inl p;
     from = λ b k p. ⊎_elim (λ q. q) (λ q. absurd (n a b k q)) p;
@@ -25,8 +25,8 @@ grown-none n = record {
 }
 
 -- F is added, and then H
-pub grown-then : {g n r : List (List ℕ)} {F H : ℕ → Rel} → Grown g F n → Grown n H r → Grown g (λ a. Or (F a) (H a)) r
-grown-then f h = record {
+pub grown_then : {g n r : List (List ℕ)} {F H : ℕ → Rel} → Grown g F n → Grown n H r → Grown g (λ a. Or (F a) (H a)) r
+grown_then f h = record {
   row = λ a. record {
     to = λ b k p.
         ⊎_elim
@@ -79,9 +79,9 @@ small_put g i l t q h m small fits s x y =
     elim (ℕ_discrete x i) [
       | yes e ↦
           rw (e, get_or-set_same g i t [] h)
-          (below-bits labels (get_or t y 0) (fits y)
+          (below_bits labels (get_or t y 0) (fits y)
           (λ k p.
-          ⊎_elim (λ u. has-below (cell g i y) labels k (small i y) u) (λ u. let z = u.0 in omega arith) (s.to y k p)))
+          ⊎_elim (λ u. has_below (cell g i y) labels k (small i y) u) (λ u. let z = u.0 in omega arith) (s.to y k p)))
       | no e ↦ rw (get_or-set_other g i x t [] e) (small x y)
     ]
 
@@ -89,7 +89,7 @@ small_put g i l t q h m small fits s x y =
 pub walks_same :
     {g t : List (List ℕ)} (R S : Rel) (l : ℕ) → Same R S → Grown g (InWalks R l) t → Grown g (InWalks S l) t
 walks_same R S l s =
-    let w = same-walk R S s in
+    let w = same_walk R S s in
     grown-map
     (λ a b k p. inr (p.0, (p.1.0, w.to b a p.1.1)))
     (λ a b k p. inr (p.0, (p.1.0, w.from b a p.1.1)))
@@ -105,10 +105,10 @@ module _ (g : List (List ℕ)) (p : List (List ℕ)) (n : ℕ) where
       (λ q. let z = q.0 in inr (omega arith, q.1))
       (λ q. inr (let z = q.0 in omega arith, rw q.0 q.1)))
       (λ a b k q. inr (⊎_elim (λ h. inl (h, q.1)) (λ e. inr (e, rw e at q.1)) (below_split n k q.0)))
-      (grown-then s u)
+      (grown_then s u)
 
   pub planes-skip :
       (t : List (List ℕ)) → Grown g (InPlanes n p) t → ((b a : ℕ) → Edge (get_or p n []) b a → ⊥)
       → Grown g (InPlanes (n + 1) p) t
   planes-skip t s none =
-      planes-more t t s (grown-none (λ a b k q. let f = first q.1.1 in none b f.0 f.1))
+      planes-more t t s (grown_none (λ a b k q. let f = first q.1.1 in none b f.0 f.1))

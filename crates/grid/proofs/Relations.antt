@@ -5,7 +5,7 @@ use Prim.Native.Nat.{ℕ, ◌+◌, ◌<◌}
 use native.Mathlib.Omega.{arith}
 use native.Mathlib.Decide.{dec_lt}
 use Rattle.grid.specs.Rows.{Rel, Or, Then, Walk, Star, Same}
-use Rattle.grid.specs.laws.Walks.{walk-map}
+use Rattle.grid.specs.Laws.Walks.{walk_map}
 
 -- a relation is the same as itself, and through another
 pub same_refl : (R : Rel) → Same R R
@@ -24,8 +24,8 @@ same_or R S F s f g = record {
 }
 
 -- walks over relations that are the same
-pub same-walk : (R S : Rel) → Same R S → Same (Walk R) (Walk S)
-same-walk R S s = record { to = λ i j w. walk-map s.to w; from = λ i j w. walk-map s.from w }
+pub same_walk : (R S : Rel) → Same R S → Same (Walk R) (Walk S)
+same_walk R S s = record { to = λ i j w. walk_map s.to w; from = λ i j w. walk_map s.from w }
 
 -- some F k with k below n
 abbrev pub Some : ℕ → (ℕ → Rel) → Rel
@@ -40,17 +40,17 @@ below_split n j h =
     ]
 
 -- some number below n + 1 is some number below n, or n
-pub some-split : {F : ℕ → Type 0} (n : ℕ) → (k : ℕ) × (k < n + 1) × F k → ((k : ℕ) × (k < n) × F k) ⊎ F n
-some-split n p = ⊎_elim (λ h. inl (p.0, h, p.2)) (λ e. inr (rw e at p.2)) (below_split n p.0 p.1)
+pub some_split : {F : ℕ → Type 0} (n : ℕ) → (k : ℕ) × (k < n + 1) × F k → ((k : ℕ) × (k < n) × F k) ⊎ F n
+some_split n p = ⊎_elim (λ h. inl (p.0, h, p.2)) (λ e. inr (rw e at p.2)) (below_split n p.0 p.1)
 
-pub some-join : {F : ℕ → Type 0} (n : ℕ) → ((k : ℕ) × (k < n) × F k) ⊎ F n → (k : ℕ) × (k < n + 1) × F k
-some-join n (inl p) = let z = p.1 in (p.0, omega arith, p.2)
-some-join n (inr p) = (n, omega arith, p)
+pub some_join : {F : ℕ → Type 0} (n : ℕ) → ((k : ℕ) × (k < n) × F k) ⊎ F n → (k : ℕ) × (k < n + 1) × F k
+some_join n (inl p) = let z = p.1 in (p.0, omega arith, p.2)
+some_join n (inr p) = (n, omega arith, p)
 
 -- a loop whose turn k adds F k to R
 module _ (R : Rel) (F : ℕ → Rel) where
-  pub some-none : Same R (Or R (Some 0 F))
-  some-none = record {
+  pub some_none : Same R (Or R (Some 0 F))
+  some_none = record {
     to = λ i j p. inl p;
     from = λ i j p. ⊎_elim (λ q. q) (λ q. absurd (let z = q.1 in omega arith)) p;
   }
@@ -59,14 +59,14 @@ module _ (R : Rel) (F : ℕ → Rel) where
   some_more S T n s t = record {
     to = λ i j p.
         ⊎_elim
-        (λ q. ⊎_elim (λ u. inl u) (λ u. inr (some-join {F = λ k. F k i j} n (inl u))) (s.to i j q))
-        (λ q. inr (some-join {F = λ k. F k i j} n (inr q)))
+        (λ q. ⊎_elim (λ u. inl u) (λ u. inr (some_join {F = λ k. F k i j} n (inl u))) (s.to i j q))
+        (λ q. inr (some_join {F = λ k. F k i j} n (inr q)))
         (t.to i j p);
     from = λ i j p.
         t.from i j
         (⊎_elim
         (λ q. inl (s.from i j (inl q)))
-        (λ q. ⊎_elim (λ u. inl (s.from i j (inr u))) (λ u. inr u) (some-split {F = λ k. F k i j} n q))
+        (λ q. ⊎_elim (λ u. inl (s.from i j (inr u))) (λ u. inr u) (some_split {F = λ k. F k i j} n q))
         p);
   }
 
@@ -79,8 +79,8 @@ module _ (R : Rel) (F : ℕ → Rel) where
 
 -- a union with what walks come before, and with what walks come after
 module _ (R W : Rel) (s : Same R (Walk W)) where
-  pub star-left : (M X : Rel) → Same X (Or M (Then R M)) → Same X (Then (Star W) M)
-  star-left M X x = record {
+  pub star_left : (M X : Rel) → Same X (Or M (Then R M)) → Same X (Then (Star W) M)
+  star_left M X x = record {
     to = λ i j p. ⊎_elim (λ q. (i, inl refl, q)) (λ q. (q.0, inr (s.to i q.0 q.1), q.2)) (x.to i j p);
     from = λ i j p. x.from i j (back i j p p.1);
   }
@@ -89,8 +89,8 @@ module _ (R W : Rel) (s : Same R (Walk W)) where
       back i j p (inl e) = inl (rw e p.2)
       back i j p (inr w) = inr (p.0, s.from i p.0 w, p.2)
 
-  pub star-right : (M X : Rel) → Same X (Or M (Then M R)) → Same X (Then M (Star W))
-  star-right M X x = record {
+  pub star_right : (M X : Rel) → Same X (Or M (Then M R)) → Same X (Then M (Star W))
+  star_right M X x = record {
     to = λ i j p. ⊎_elim (λ q. (j, q, inl refl)) (λ q. (q.0, q.1, inr (s.to q.0 j q.2))) (x.to i j p);
     from = λ i j p. x.from i j (back i j p p.2);
   }

@@ -13,19 +13,19 @@ use denote.Plain.{UInt}
 use borrow.Author.Rules.{elem_Fits}
 use Rattle.grid.specs.Rows.{Has, Edge}
 use Rattle.grid.specs.Grid.{cell}
-use Rattle.grid.specs.laws.Masks.{has-zero, has-below}
+use Rattle.grid.specs.Laws.Masks.{has_zero, has_below}
 
 -- a row with a bit is one of the rows
 pub edge_row : (r : List ℕ) (n i j : ℕ) → length r ≡ n → Edge r i j → i < n
 edge_row r n i j l e =
     elim (dec_lt i n) [
       | yes p ↦ p
-      | no p ↦ absurd (has-zero j (rw (get_or-eq_default r 0 {n = i} (omega arith)) at e))
+      | no p ↦ absurd (has_zero j (rw (get_or-eq_default r 0 {n = i} (omega arith)) at e))
     ]
 
 -- a bit of a 16-bit row is one of sixteen
-pub edge-column : (r : List ℕ) (us : List Val) → shadow (each ℕ (UInt w16).own_val r us) → (i j : ℕ) → Edge r i j → j < 16
-edge-column r us h i j e = has-below (get_or r i 0) 16 j (elem_Fits w16 w16 r us i h tt).fits e
+pub edge_column : (r : List ℕ) (us : List Val) → shadow (each ℕ (UInt w16).own_val r us) → (i j : ℕ) → Edge r i j → j < 16
+edge_column r us h i j e = has_below (get_or r i 0) 16 j (elem_Fits w16 w16 r us i h tt).fits e
 
 -- a pair of a grid has a row of it
 pub cell_row : (g : List (List ℕ)) (n a b l : ℕ) → length g ≡ n → Has (cell g a b) l → a < n
@@ -34,7 +34,7 @@ cell_row g n a b l h e =
       | yes p ↦ p
       | no p ↦
           let z : get_or g a [] ≡ [] = get_or-eq_default g [] {n = a} (omega arith) in
-          absurd (has-zero l (rw z at e))
+          absurd (has_zero l (rw z at e))
     ]
 
 -- a row of zeros
@@ -43,14 +43,14 @@ zero_row zero i = refl
 zero_row (suc n) zero = refl
 zero_row (suc n) (suc i) = zero_row n i
 
-pub zero-edge : (n i j : ℕ) → Edge (replicate n 0) i j → ⊥
-zero-edge n i j e = has-zero j (rw (zero_row n i) at e)
+pub zero_edge : (n i j : ℕ) → Edge (replicate n 0) i j → ⊥
+zero_edge n i j e = has_zero j (rw (zero_row n i) at e)
 
 -- a grid of zeros
-pub zero-cell : (n m a b : ℕ) → cell (replicate n (replicate m 0)) a b ≡ 0
-zero-cell zero m a b = refl
-zero-cell (suc n) m zero b = zero_row m b
-zero-cell (suc n) m (suc a) b = zero-cell n m a b
+pub zero_cell : (n m a b : ℕ) → cell (replicate n (replicate m 0)) a b ≡ 0
+zero_cell zero m a b = refl
+zero_cell (suc n) m zero b = zero_row m b
+zero_cell (suc n) m (suc a) b = zero_cell n m a b
 
-pub zero-pair : (n m a b k : ℕ) → Has (cell (replicate n (replicate m 0)) a b) k → ⊥
-zero-pair n m a b k e = has-zero k (rw (zero-cell n m a b) at e)
+pub zero_pair : (n m a b k : ℕ) → Has (cell (replicate n (replicate m 0)) a b) k → ⊥
+zero_pair n m a b k e = has_zero k (rw (zero_cell n m a b) at e)

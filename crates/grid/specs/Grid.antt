@@ -1,6 +1,6 @@
 -- Grids: sixteen rows of sixteen label masks, and what the functions on them leave.
 use Rattle.std.specs.Prelude.{◌≡◌, ◌≢◌, ◌⊎◌, List, [], ℕ, ◌^◌, ◌<◌, ◌≤◌, get_or, length}
-use Rattle.table.specs.Constants.{most-names}
+use Rattle.table.specs.Constants.{most_names}
 use Rattle.rules.specs.Label.{Label, several}
 use Rattle.rules.specs.Number.{number, label_of, labels}
 use Rattle.rules.specs.Model.{Kept}
@@ -25,8 +25,8 @@ Small g = (a b : ℕ) → cell g a b < 2 ^ labels
 
 -- the grid has sixteen rows of sixteen masks
 pub record Square (g : List (List ℕ)) : Type 0 where
-  pub rows : length g ≡ most-names
-  pub columns : (a : ℕ) → a < most-names → length (get_or g a []) ≡ most-names
+  pub rows : length g ≡ most_names
+  pub columns : (a : ℕ) → a < most_names → length (get_or g a []) ≡ most_names
 
 -- the grid is square, and has small masks alone
 abbrev pub Proper : List (List ℕ) → Type 0
@@ -63,6 +63,6 @@ pub record Closure (g r : List (List ℕ)) : Type 0 where
 
 -- x is the lowest name with a ring, or 16 where there is none
 pub record LowestRing (g : List (List ℕ)) (x : ℕ) : Type 0 where
-  pub within : x ≤ most-names
-  pub ring : x < most-names → Pair g x x several
+  pub within : x ≤ most_names
+  pub ring : x < most_names → Pair g x x several
   pub lowest : (y : ℕ) → Pair g y y several → x ≤ y

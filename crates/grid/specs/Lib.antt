@@ -1,4 +1,4 @@
 pub mod Grid
 pub mod Rows
 pub mod Planes
-pub mod laws
+pub mod Laws

@@ -4,7 +4,7 @@ use Rattle.rules.specs.Label.{unknown, several, combine}
 use Rattle.rules.specs.Number.{number, label_of, labels}
 use Rattle.grid.specs.Rows.{Has, Rel, Edge, Or, Then, Star, Apart, Walk, Same}
 use Rattle.grid.specs.Grid.{cell, Pair}
-use Rattle.grid.specs.laws.Walks.{Mixed}
+use Rattle.grid.specs.Laws.Walks.{Mixed}
 
 -- from b to a where the pair (a, b) has label number l
 abbrev pub Labelled : List (List ℕ) → ℕ → Rel

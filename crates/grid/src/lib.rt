@@ -1,6 +1,6 @@
 // Grids of labelled pairs: recording, closing, and the lowest ring name.
 ghost use Rattle.std.specs.Prelude.{◌^◌, ◌<◌};
-ghost use Rattle.table.specs.Constants.{most-names};
+ghost use Rattle.table.specs.Constants.{most_names};
 ghost use Rattle.rules.specs.Number.{labels};
 ghost use Rattle.grid.specs.Rows.{Bits};
 ghost use Rattle.grid.specs.Grid.{In, Small, AllKept, KeptIn, Empty, Added, Closure, LowestRing, Square};
@@ -36,7 +36,7 @@ fn kept(a: usize, b: usize, m: u16) -> u16
 
 // Adds the pair (a, b) to the grid in place, for each label of m with which it is kept.
 pub fn put_labels(g: &mut Grid, a: usize, b: usize, m: u16)
-    requires { (a < most-names) × (b < most-names) × (m < 2 ^ labels) × Small g.old × Square g.old }
+    requires { (a < most_names) × (b < most_names) × (m < 2 ^ labels) × Small g.old × Square g.old }
     ensures added { Added g.old a b (In m) g.new }
     ensures square { Square g.new }
 {

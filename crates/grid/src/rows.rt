@@ -1,6 +1,6 @@
 // Relations on sixteen names as bit rows: union, product, walks, and pairs with two different ends.
 ghost use Rattle.std.specs.Prelude.{◌<◌};
-ghost use Rattle.table.specs.Constants.{most-names};
+ghost use Rattle.table.specs.Constants.{most_names};
 ghost use Rattle.grid.specs.Rows.{Edge, Or, Then, Spread, Walk, Apart, Less, Same, Bits, SomeRow};
 
 use table::limits::MOST_NAMES;
@@ -10,7 +10,7 @@ pub type Rows = [u16; MOST_NAMES];
 
 // Rows r, with the mask m added at each row where s has bit k.
 pub fn spread(r: Rows, s: Rows, k: usize, m: u16) -> Rows
-    requires { k < most-names }
+    requires { k < most_names }
     ensures { Same (Edge result) (Or (Edge r) (Spread s k m)) }
 {
     let mut next = r;

@@ -1,4 +1,4 @@
 pub mod Lies
 pub mod Walks
 pub mod Holding
-pub mod laws
+pub mod Laws

@@ -1,6 +1,6 @@
 -- Codes that lie in a body section, with what belongs to their items but does not stand at them.
 use Rattle.std.specs.Prelude.{◌≡◌, Bool, true, false, cond, List, ℕ, ◌+◌, ◌-◌, ◌<◌, length, get_or}
-use Rattle.table.specs.Constants.{END, NEW, LOCK, FORK, CHOICE, OTHER, CALL, MIRROR, code, most-names}
+use Rattle.table.specs.Constants.{END, NEW, LOCK, FORK, CHOICE, OTHER, CALL, MIRROR, code, most_names}
 use Rattle.table.specs.Program.{Code, end, new, lock, fork, choice, call, mirror, Program, body}
 
 -- what a run is of: the parameter counts and the body section of a table, where its bodies start, what belongs to its
@@ -36,9 +36,9 @@ closer first = cond first (code OTHER) (code END)
 abbrev pub Lies : Section → Bool → ℕ → Code → ℕ → Type 0
 Lies z o from end to = IsAt z from (closer o) × (to ≡ from + 1)
 Lies z o from (new x c) to =
-    IsAt z from (code NEW) × (link_at z from ≡ x) × (x < most-names) × Lies z o (from + 1) c to
+    IsAt z from (code NEW) × (link_at z from ≡ x) × (x < most_names) × Lies z o (from + 1) c to
 Lies z o from (lock x c d) to =
-    IsAt z from (code LOCK) × IsAt z (from + 1) x × (x < most-names)
+    IsAt z from (code LOCK) × IsAt z (from + 1) x × (x < most_names)
     × ((mid : ℕ) × Lies z false (from + 2) c mid × Lies z o mid d to)
 Lies z o from (fork i c d) to =
     IsAt z from (code FORK) × Lies z false (from + 1) c (link_at z from) × Lies z o (link_at z from) d to
@@ -47,11 +47,11 @@ Lies z o from (choice a b c) to =
     × Lies z false (link_at z from) b (link_at z (link_at z from - 1)) × Lies z o (link_at z (link_at z from - 1)) c to
 Lies z o from (call r xs c) to =
     IsAt z from (code CALL) × IsAt z (from + 1) r × (r < length z.counts) × (get_or z.counts r 0 ≡ length xs)
-    × (length xs < most-names)
-    × ((j : ℕ) → j < length xs → IsAt z (from + 2 + j) (get_or xs j 0) × (get_or xs j 0 < most-names))
+    × (length xs < most_names)
+    × ((j : ℕ) → j < length xs → IsAt z (from + 2 + j) (get_or xs j 0) × (get_or xs j 0 < most_names))
     × Lies z o (from + 2 + length xs) c to
 Lies z o from (mirror x y c) to =
-    IsAt z from (code MIRROR) × (link_at z from ≡ x) × (x < most-names) × IsAt z (from + 1) y × (y < most-names)
+    IsAt z from (code MIRROR) × (link_at z from ≡ x) × (x < most_names) × IsAt z (from + 1) y × (y < most_names)
     × Lies z o (from + 2) c to
 
 -- the body of every routine lies at its head

@@ -1,6 +1,6 @@
 -- The walk that links a body: place by place, and the paths that it takes.
 use Rattle.std.specs.Prelude.{◌≡◌, Bool, true, false, cond, not, List, ℕ, ◌+◌, ◌-◌, ◌<◌, ◌≤◌, ◌^◌, eqb, length, get_or, set, replicate}
-use Rattle.table.specs.Constants.{END, NEW, LOCK, OTHER, CALL, MIRROR, code, most-open, most_bytes, most-params}
+use Rattle.table.specs.Constants.{END, NEW, LOCK, OTHER, CALL, MIRROR, code, most_open, most_bytes, most_params}
 use Rattle.links.specs.declared.Walk.{Walk}
 
 -- a place, field by field
@@ -12,15 +12,15 @@ abbrev pub binds? : ℕ → Bool
 binds? b = cond (eqb b (code NEW)) true (eqb b (code MIRROR))
 
 -- the offset past an item with code b
-abbrev pub pastBy : List ℕ → List ℕ → ℕ → ℕ → ℕ
-pastBy ks s at b =
+abbrev pub past_by : List ℕ → List ℕ → ℕ → ℕ → ℕ
+past_by ks s at b =
     cond (eqb b (code LOCK)) (at + 2)
     (cond (eqb b (code MIRROR)) (at + 2)
     (cond (eqb b (code CALL)) (at + 2 + get_or ks (get_or s (at + 1) 0) 0) (at + 1)))
 
 -- the offset past the item
 abbrev pub past_at : List ℕ → List ℕ → ℕ → ℕ
-past_at ks s at = pastBy ks s at (get_or s at 0)
+past_at ks s at = past_by ks s at (get_or s at 0)
 
 -- the offset whose link the item writes
 abbrev pub slot_by : Walk → ℕ → ℕ
@@ -29,41 +29,41 @@ slot_by w b =
     (cond (eqb b (code OTHER)) (get_or w.opened w.top 0) w.at)
 
 -- what it writes
-abbrev pub linkBy : Walk → ℕ → ℕ → ℕ
-linkBy w next b = cond (binds? b) w.name next
+abbrev pub link_by : Walk → ℕ → ℕ → ℕ
+link_by w next b = cond (binds? b) w.name next
 
 -- the place after it
-abbrev pub movedBy : Walk → ℕ → ℕ → Walk
-movedBy w next b =
+abbrev pub moved_by : Walk → ℕ → ℕ → Walk
+moved_by w next b =
     cond (eqb b (code END)) (walk next (w.top - 1) w.name w.opened)
     (cond (binds? b) (walk next w.top (w.name + 1) w.opened)
     (cond (eqb b (code OTHER)) (walk next w.top w.name (set w.opened w.top w.at))
     (cond (eqb b (code CALL)) (walk next w.top w.name w.opened)
     (walk next (w.top + 1) w.name (set w.opened (w.top + 1) w.at)))))
 
-abbrev pub walkBy : List ℕ → List ℕ → Walk → ℕ → Walk
-walkBy ks s w b = movedBy w (pastBy ks s w.at b) b
+abbrev pub walk_by : List ℕ → List ℕ → Walk → ℕ → Walk
+walk_by ks s w b = moved_by w (past_by ks s w.at b) b
 
-abbrev pub linksBy : List ℕ → List ℕ → Walk → List ℕ → ℕ → List ℕ
-linksBy ks s w l b = set l (slot_by w b) (linkBy w (pastBy ks s w.at b) b)
+abbrev pub links_by : List ℕ → List ℕ → Walk → List ℕ → ℕ → List ℕ
+links_by ks s w l b = set l (slot_by w b) (link_by w (past_by ks s w.at b) b)
 
 -- the place and the links after the item at a place
-abbrev pub walkAfter : List ℕ → List ℕ → Walk → Walk
-walkAfter ks s w = walkBy ks s w (get_or s w.at 0)
+abbrev pub walk_after : List ℕ → List ℕ → Walk → Walk
+walk_after ks s w = walk_by ks s w (get_or s w.at 0)
 
-abbrev pub linksAfter : List ℕ → List ℕ → Walk → List ℕ → List ℕ
-linksAfter ks s w l = linksBy ks s w l (get_or s w.at 0)
+abbrev pub links_after : List ℕ → List ℕ → Walk → List ℕ → List ℕ
+links_after ks s w l = links_by ks s w l (get_or s w.at 0)
 
 -- whether the body goes on
-abbrev pub goingBy : Walk → ℕ → Bool
-goingBy w b = cond (eqb b (code END)) (not (eqb w.top 0)) true
+abbrev pub going_by : Walk → ℕ → Bool
+going_by w b = cond (eqb b (code END)) (not (eqb w.top 0)) true
 
 abbrev pub going : List ℕ → Walk → Bool
-going s w = goingBy w (get_or s w.at 0)
+going s w = going_by w (get_or s w.at 0)
 
 -- the start of a body
 abbrev pub begun : ℕ → ℕ → Walk
-begun from own = walk from 0 (own + 1) (replicate (most-open + 1) 0)
+begun from own = walk from 0 (own + 1) (replicate (most_open + 1) 0)
 
 -- the item can be passed
 pub record Passable (ks s : List ℕ) (at : ℕ) : Type 0 where
@@ -73,13 +73,13 @@ pub record Passable (ks s : List ℕ) (at : ℕ) : Type 0 where
       → (at + 1 < length s) × (get_or s (at + 1) 0 < length ks) × (at + 2 + get_or ks (get_or s (at + 1) 0) 0 < 2 ^ 64)
 
 abbrev pub Levelled : Walk → Type 0
-Levelled w = w.top ≤ most-open
+Levelled w = w.top ≤ most_open
 
 -- the place can be left
 pub record Moves (w : Walk) (b : ℕ) : Type 0 where
   pub levelled : Levelled w
   pub closes : b ≡ code END → 1 ≤ w.top
-  pub opens : (b ≡ code END → ⊥) → binds? b ≡ false → (b ≡ code OTHER → ⊥) → (b ≡ code CALL → ⊥) → w.top < most-open
+  pub opens : (b ≡ code END → ⊥) → binds? b ≡ false → (b ≡ code OTHER → ⊥) → (b ≡ code CALL → ⊥) → w.top < most_open
   pub named : w.name + 1 < 2 ^ 64
 
 -- the item can be linked
@@ -91,8 +91,8 @@ pub record CanLink (ks s : List ℕ) (w : Walk) : Type 0 where
 -- by items, from a place and its links to the place w and the links l
 pub data Path (ks s : List ℕ) (w : Walk) (l : List ℕ) : Walk → List ℕ → Type 0 where
   done : (v : Walk) (m : List ℕ) → v ≡ w → m ≡ l → Path ks s w l v m
-  step : (v u : Walk) (m n : List ℕ) → going s v ≡ true → CanLink ks s v → u ≡ walkAfter ks s v
-      → n ≡ linksAfter ks s v m → Path ks s w l u n → Path ks s w l v m
+  step : (v u : Walk) (m n : List ℕ) → going s v ≡ true → CanLink ks s v → u ≡ walk_after ks s v
+      → n ≡ links_after ks s v m → Path ks s w l u n → Path ks s w l v m
 
 -- the place is the END of the body
 abbrev pub Ends : List ℕ → Walk → Type 0
@@ -108,4 +108,4 @@ Linked ks s v m l r =
     (w : Walk) (n : List ℕ) → Path ks s w n v m → Ends s w → (r ≡ w.at + 1) × (l ≡ n)
 
 abbrev pub Bounded : ℕ → Type 0
-Bounded own = own ≤ most-params
+Bounded own = own ≤ most_params

@@ -1,10 +1,10 @@
 // What the steps need of the section, worked out once: where the bodies start, and what belongs to an item but does not
 // stand at it.
 ghost use Rattle.std.specs.Prelude.{◌≡◌, ◌<◌, ◌+◌, ◌^◌, length};
-ghost use Rattle.table.specs.Constants.{most-routines, most_bytes};
-ghost use Rattle.table.specs.laws.Sections.{Held};
+ghost use Rattle.table.specs.Constants.{most_routines, most_bytes};
+ghost use Rattle.table.specs.Laws.Sections.{Held};
 ghost use Rattle.links.specs.Holding.{Links};
-ghost use Rattle.links.specs.Walks.{binds?, past_at, slot_by, linkBy, movedBy, walkAfter, linksAfter, going, begun};
+ghost use Rattle.links.specs.Walks.{binds?, past_at, slot_by, link_by, moved_by, walk_after, links_after, going, begun};
 ghost use Rattle.links.specs.Walks.{Passable, Levelled, Moves, CanLink, Walks, Linked, Bounded};
 
 use table::limits::{CALL, END, LOCK, MIRROR, MOST_BYTES, MOST_OPEN, MOST_ROUTINES, NEW, OTHER};
@@ -68,7 +68,7 @@ fn binds(b: u8) -> bool
 
 // What an item with code b writes: a NEW or MIRROR its name, any other the offset after it.
 fn link_of(b: u8, w: Walk, next: usize) -> usize
-    ensures { result ≡ linkBy w next b }
+    ensures { result ≡ link_by w next b }
 {
     if binds(b) {
         return w.name;
@@ -79,7 +79,7 @@ fn link_of(b: u8, w: Walk, next: usize) -> usize
 // The place after an item with code b.
 fn moved(b: u8, w: Walk, next: usize) -> Walk
     requires { Moves w b }
-    ensures { result ≡ movedBy w next b }
+    ensures { result ≡ moved_by w next b }
 {
     let mut v = w;
     let n = w.top;
@@ -107,8 +107,8 @@ fn moved(b: u8, w: Walk, next: usize) -> Walk
 // Links the item at the place, and gives the place after it.
 fn link_item(ks: &[u8], s: &[u8], links: &mut [usize; MOST_BYTES], w: Walk) -> Walk
     requires { CanLink ks.now s.now w }
-    ensures { (links.new ≡ linksAfter ks.now s.now w links.old)
-        × (result ≡ walkAfter ks.now s.now w) }
+    ensures { (links.new ≡ links_after ks.now s.now w links.old)
+        × (result ≡ walk_after ks.now s.now w) }
 {
     let at = w.at;
     let b = s[at];
@@ -173,7 +173,7 @@ pub fn link(
     heads: &mut [usize; MOST_ROUTINES],
     links: &mut [usize; MOST_BYTES],
 )
-    requires { Held ks.now s.now × (length heads.old ≡ most-routines)
+    requires { Held ks.now s.now × (length heads.old ≡ most_routines)
         × (length links.old ≡ most_bytes) }
     ensures { Links ks.now s.now heads.new links.new }
 {

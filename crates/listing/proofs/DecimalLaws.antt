@@ -30,45 +30,45 @@ enough (suc k) (suc j) n h g = elim (dec_lt n 10) [
 ]
 
 -- a number below ten is its digit
-pub decimal-one : (n : ℕ) → n < 10 → decimal n ≡ digit n ∷ []
-decimal-one n h = one n n h
+pub decimal_one : (n : ℕ) → n < 10 → decimal n ≡ digit n ∷ []
+decimal_one n h = one n n h
 
 -- a larger number is a tenth of it and the last digit
-pub decimal-more : (n : ℕ) → 10 ≤ n → decimal n ≡ decimal (n / 10) ++ (digit (n % 10) ∷ [])
-decimal-more n h = more n n h
+pub decimal_more : (n : ℕ) → 10 ≤ n → decimal n ≡ decimal (n / 10) ++ (digit (n % 10) ∷ [])
+decimal_more n h = more n n h
     ∙ ap (λ (d : List ℕ). d ++ (digit (n % 10) ∷ [])) (enough n (suc (n / 10)) (n / 10) (omega arith) (omega arith))
 
-digits-few : (k n : ℕ) → length (digits k n) ≤ n + 1
+digits_few : (k n : ℕ) → length (digits k n) ≤ n + 1
 unfolding digits
-digits-few zero n = omega arith
-digits-few (suc k) n = elim (dec_lt n 10) [
+digits_few zero n = omega arith
+digits_few (suc k) n = elim (dec_lt n 10) [
   | yes s ↦ omega (arith, ap length (one k n s))
   | no l ↦
       let e = ap length (more k n (omega arith)) ∙ length-append (digits k (n / 10)) (digit (n % 10) ∷ []) in
-      omega (arith, digits-few k (n / 10))
+      omega (arith, digits_few k (n / 10))
 ]
 
 -- a number has at most one digit more than its value
-pub decimal-few : (n : ℕ) → length (decimal n) ≤ n + 1
-decimal-few n = digits-few (suc n) n
+pub decimal_few : (n : ℕ) → length (decimal n) ≤ n + 1
+decimal_few n = digits_few (suc n) n
 
-length-one : (n : ℕ) → n < 10 → length (decimal n) ≡ 1
-length-one n h = ap length (decimal-one n h)
+length_one : (n : ℕ) → n < 10 → length (decimal n) ≡ 1
+length_one n h = ap length (decimal_one n h)
 
 length_more : (n : ℕ) → 10 ≤ n → length (decimal n) ≡ length (decimal (n / 10)) + 1
-length_more n h = ap length (decimal-more n h) ∙ length-append (decimal (n / 10)) (digit (n % 10) ∷ [])
+length_more n h = ap length (decimal_more n h) ∙ length-append (decimal (n / 10)) (digit (n % 10) ∷ [])
 
-pub one-digit : (n : ℕ) → n < 10 → length (decimal n) ≤ 1
-one-digit n h = omega (arith, length-one n h)
+pub one_digit : (n : ℕ) → n < 10 → length (decimal n) ≤ 1
+one_digit n h = omega (arith, length_one n h)
 
 pub two_digits : (n : ℕ) → n < 100 → length (decimal n) ≤ 2
 two_digits n h = elim (dec_lt n 10) [
-  | yes s ↦ omega (arith, one-digit n s)
-  | no l ↦ omega (arith, length_more n (omega arith), one-digit (n / 10) (omega arith))
+  | yes s ↦ omega (arith, one_digit n s)
+  | no l ↦ omega (arith, length_more n (omega arith), one_digit (n / 10) (omega arith))
 ]
 
-pub three-digits : (n : ℕ) → n < 1000 → length (decimal n) ≤ 3
-three-digits n h = elim (dec_lt n 100) [
+pub three_digits : (n : ℕ) → n < 1000 → length (decimal n) ≤ 3
+three_digits n h = elim (dec_lt n 100) [
   | yes s ↦ omega (arith, two_digits n s)
   | no l ↦ omega (arith, length_more n (omega arith), two_digits (n / 10) (omega arith))
 ]

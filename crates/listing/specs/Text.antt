@@ -1,6 +1,6 @@
 -- The listing of a table: lines of words and decimal numbers, from the answer and the model.
 use Rattle.std.specs.Prelude.{◌≡◌, cond, List, [], ◌∷◌, ◌++◌, ℕ, zero, suc, ◌+◌, ◌*◌, ◌/◌, ◌%◌, eqb, ltb, length, get_or, take, drop}
-use Rattle.table.specs.Constants.{most-routines, row-names, row-cells, row-bytes}
+use Rattle.table.specs.Constants.{most_routines, row_names, row_cells, row_bytes}
 use Rattle.analysis.specs.Answer.{Analysed}
 use Rattle.analysis.specs.declared.Share.{Share}
 use Rattle.analysis.specs.declared.Verdict.{Verdict}
@@ -9,30 +9,30 @@ use Rattle.analysis.specs.declared.Answer.{Answer}
 use Rattle.analysis.specs.declared.Answer.TheVariants.{Judged, Refused}
 
 -- the words of a listing, in ASCII: routines, pair, share, clear, ring, refused
-abbrev pub routines-word : List ℕ
-routines-word = 114 ∷ 111 ∷ 117 ∷ 116 ∷ 105 ∷ 110 ∷ 101 ∷ 115 ∷ []
+abbrev pub routines_word : List ℕ
+routines_word = 114 ∷ 111 ∷ 117 ∷ 116 ∷ 105 ∷ 110 ∷ 101 ∷ 115 ∷ []
 
-abbrev pub pair-word : List ℕ
-pair-word = 112 ∷ 97 ∷ 105 ∷ 114 ∷ []
+abbrev pub pair_word : List ℕ
+pair_word = 112 ∷ 97 ∷ 105 ∷ 114 ∷ []
 
-abbrev pub share-word : List ℕ
-share-word = 115 ∷ 104 ∷ 97 ∷ 114 ∷ 101 ∷ []
+abbrev pub share_word : List ℕ
+share_word = 115 ∷ 104 ∷ 97 ∷ 114 ∷ 101 ∷ []
 
-abbrev pub clear-word : List ℕ
-clear-word = 99 ∷ 108 ∷ 101 ∷ 97 ∷ 114 ∷ []
+abbrev pub clear_word : List ℕ
+clear_word = 99 ∷ 108 ∷ 101 ∷ 97 ∷ 114 ∷ []
 
-abbrev pub ring-word : List ℕ
-ring-word = 114 ∷ 105 ∷ 110 ∷ 103 ∷ []
+abbrev pub ring_word : List ℕ
+ring_word = 114 ∷ 105 ∷ 110 ∷ 103 ∷ []
 
-abbrev pub refused-word : List ℕ
-refused-word = 114 ∷ 101 ∷ 102 ∷ 117 ∷ 115 ∷ 101 ∷ 100 ∷ []
+abbrev pub refused_word : List ℕ
+refused_word = 114 ∷ 101 ∷ 102 ∷ 117 ∷ 115 ∷ 101 ∷ 100 ∷ []
 
 -- the byte between two parts of a line, and the byte that closes a line
 abbrev pub space : ℕ
 space = 32
 
-abbrev pub line-end : ℕ
-line-end = 10
+abbrev pub line_end : ℕ
+line_end = 10
 
 -- a digit in ASCII
 abbrev pub digit : ℕ → ℕ
@@ -49,7 +49,7 @@ decimal n = digits (suc n) n
 
 -- what follows the word of a line: each number after a space, and the line's end
 abbrev pub numbers : List ℕ → List ℕ
-numbers [] = line-end ∷ []
+numbers [] = line_end ∷ []
 numbers (n ∷ ns) = space ∷ decimal n ++ numbers ns
 
 -- a line: a word and its numbers
@@ -62,32 +62,32 @@ each zero f = []
 each (suc n) f = each n f ++ f n
 
 -- the line of cell (a, b) of routine r's row, if the cell is not 0
-abbrev pub cellLine : List ℕ → ℕ → ℕ → ℕ → List ℕ
-cellLine model r a b =
-    let v = get_or model (row-bytes * r + (row-names * a + b)) 0 in cond (eqb v 0) [] (line pair-word (r ∷ a ∷ b ∷ v ∷ []))
+abbrev pub cell_line : List ℕ → ℕ → ℕ → ℕ → List ℕ
+cell_line model r a b =
+    let v = get_or model (row_bytes * r + (row_names * a + b)) 0 in cond (eqb v 0) [] (line pair_word (r ∷ a ∷ b ∷ v ∷ []))
 
 -- the lines of the rows of n routines, by routine, then a, then b
-abbrev pub pairLines : ℕ → List ℕ → List ℕ
-pairLines n model = each n (λ r. each row-names (λ a. each row-names (λ b. cellLine model r a b)))
+abbrev pub pair_lines : ℕ → List ℕ → List ℕ
+pair_lines n model = each n (λ r. each row_names (λ a. each row_names (λ b. cell_line model r a b)))
 
 -- the line of a share: the whole percentage, the remainder, and the number of reached routines
-abbrev pub shareLine : Share → List ℕ
-shareLine share = line share-word (share.percent ∷ share.remainder ∷ share.reached ∷ [])
+abbrev pub share_line : Share → List ℕ
+share_line share = line share_word (share.percent ∷ share.remainder ∷ share.reached ∷ [])
 
 -- the line of a verdict
-abbrev pub verdictLine : Verdict → List ℕ
-verdictLine Clear = line clear-word []
-verdictLine (Ring ring) = line ring-word (ring.routine ∷ ring.name ∷ [])
+abbrev pub verdict_line : Verdict → List ℕ
+verdict_line Clear = line clear_word []
+verdict_line (Ring ring) = line ring_word (ring.routine ∷ ring.name ∷ [])
 
 -- the listing of a table of n routines that is judged
-abbrev pub judgedListing : ℕ → List ℕ → Verdict → Share → List ℕ
-judgedListing n model verdict share =
-    line routines-word (n ∷ []) ++ pairLines n model ++ shareLine share ++ verdictLine verdict
+abbrev pub judged_listing : ℕ → List ℕ → Verdict → Share → List ℕ
+judged_listing n model verdict share =
+    line routines_word (n ∷ []) ++ pair_lines n model ++ share_line share ++ verdict_line verdict
 
 -- the listing of a table of n routines, from the answer and the model; the number of rounds is not in it
 abbrev pub listing : ℕ → List ℕ → Answer → List ℕ
-listing n model (Judged verdict share m) = judgedListing n model verdict share
-listing n model (Refused e) = line refused-word (e ∷ [])
+listing n model (Judged verdict share m) = judged_listing n model verdict share
+listing n model (Refused e) = line refused_word (e ∷ [])
 
 -- the buffer after a text was written from its beginning on: as much of the text as there is room for, and then what was
 -- there before
@@ -97,7 +97,7 @@ over text before = take (length before) text ++ drop (length text) before
 -- how long a listing is at most: the first line, a line of 16 bytes for each cell of each routine, the share's line and
 -- the verdict's
 abbrev pub longest : ℕ
-longest = 12 + most-routines * row-cells * 16 + 15 + 11
+longest = 12 + most_routines * row_cells * 16 + 15 + 11
 
 -- what `list` leaves: the analysis of the table, its listing in the lent buffer, and the listing's length; n is the
 -- table's first byte, the number of routines

@@ -1,10 +1,10 @@
 // The listing of a table: its lines of words and decimal numbers, written into a lent buffer.
 ghost use Rattle.std.specs.Prelude.{◌≡◌, ◌<◌, ◌≤◌, get_or};
-ghost use Rattle.table.specs.Constants.{most-routines};
+ghost use Rattle.table.specs.Constants.{most_routines};
 ghost use Rattle.analysis.specs.Answer.{Short};
-ghost use Rattle.listing.specs.Text.{Listed, judgedListing, longest};
+ghost use Rattle.listing.specs.Text.{Listed, judged_listing, longest};
 ghost use Rattle.append.specs.Appends.{Appends};
-ghost use Rattle.listing.specs.laws.Digits.{FewDigits};
+ghost use Rattle.listing.specs.Laws.Digits.{FewDigits};
 
 mod lines;
 mod text;
@@ -27,8 +27,8 @@ fn routines(table: &[u8]) -> usize
 
 // Writes the listing of a table of n routines that was judged.
 fn list_judged(out: &mut [u8], n: usize, model: &[u8], verdict: Verdict, share: Share) -> usize
-    requires { (n ≤ most-routines) × Short verdict × FewDigits share }
-    ensures appends { Appends 0 (judgedListing n model.now verdict share) out.old
+    requires { (n ≤ most_routines) × Short verdict × FewDigits share }
+    ensures appends { Appends 0 (judged_listing n model.now verdict share) out.old
         out.new result }
     ensures few { result ≤ longest }
 {

@@ -1,9 +1,9 @@
 // The lines of a listing, appended to a text in a lent buffer.
 ghost use Rattle.std.specs.Prelude.{◌≡◌, [], ◌∷◌, ◌*◌, ◌+◌, ◌<◌, ◌≤◌, length, get_or};
-ghost use Rattle.table.specs.Constants.{most-routines, row-names};
+ghost use Rattle.table.specs.Constants.{most_routines, row_names};
 ghost use Rattle.analysis.specs.Answer.{Short};
-ghost use Rattle.listing.specs.Text.{cellLine, each, line, pair-word, pairLines, ring-word, shareLine, verdictLine};
-ghost use Rattle.listing.specs.laws.Digits.{FewDigits};
+ghost use Rattle.listing.specs.Text.{cell_line, each, line, pair_word, pair_lines, ring_word, share_line, verdict_line};
+ghost use Rattle.listing.specs.Laws.Digits.{FewDigits};
 ghost use Rattle.append.specs.Appends.{Appends};
 
 use crate::text::put_number;
@@ -25,8 +25,8 @@ pub fn put_line(out: &mut [u8], at: usize, word: &[u8], n: u64) -> usize
 
 // Appends the line of a pair.
 fn put_pair(out: &mut [u8], at: usize, r: u64, a: u64, b: u64, v: u64) -> usize
-    requires { (at < 100000) × (r < most-routines) × (a < row-names) × (b < row-names) × (v < 256) }
-    ensures appends { Appends at (line pair-word (r ∷ a ∷ b ∷ v ∷ [])) out.old out.new result }
+    requires { (at < 100000) × (r < most_routines) × (a < row_names) × (b < row_names) × (v < 256) }
+    ensures appends { Appends at (line pair_word (r ∷ a ∷ b ∷ v ∷ [])) out.old out.new result }
     ensures few { result ≤ at + 16 }
 {
     let after_word = put(out, at, b"pair");
@@ -46,8 +46,8 @@ fn byte_at(model: &[u8], i: usize) -> usize
 
 // Appends the line of cell (a, b) of routine r's row, if the cell is not 0.
 fn put_cell(out: &mut [u8], at: usize, model: &[u8], r: usize, a: usize, b: usize) -> usize
-    requires { (at < 100000) × (r < most-routines) × (a < row-names) × (b < row-names) }
-    ensures appends { Appends at (cellLine model.now r a b) out.old out.new result }
+    requires { (at < 100000) × (r < most_routines) × (a < row_names) × (b < row_names) }
+    ensures appends { Appends at (cell_line model.now r a b) out.old out.new result }
     ensures few { result ≤ at + 16 }
 {
     let v = byte_at(model, ROW_BYTES * r + (ROW_NAMES * a + b));
@@ -60,8 +60,8 @@ fn put_cell(out: &mut [u8], at: usize, model: &[u8], r: usize, a: usize, b: usiz
 
 // Appends the lines of the cells (a, b) of routine r's row, for each b.
 fn put_cells(out: &mut [u8], at: usize, model: &[u8], r: usize, a: usize) -> usize
-    requires { (at < 90000) × (r < most-routines) × (a < row-names) }
-    ensures appends { Appends at (each row-names (λ b. cellLine model.now r a b))
+    requires { (at < 90000) × (r < most_routines) × (a < row_names) }
+    ensures appends { Appends at (each row_names (λ b. cell_line model.now r a b))
         out.old out.new result }
     ensures few { result ≤ at + 128 }
 {
@@ -75,8 +75,8 @@ fn put_cells(out: &mut [u8], at: usize, model: &[u8], r: usize, a: usize) -> usi
 
 // Appends the lines of routine r's row.
 fn put_row(out: &mut [u8], at: usize, model: &[u8], r: usize) -> usize
-    requires { (at < 80000) × (r < most-routines) }
-    ensures appends { Appends at (each row-names (λ a. each row-names (λ b. cellLine model.now r a b)))
+    requires { (at < 80000) × (r < most_routines) }
+    ensures appends { Appends at (each row_names (λ a. each row_names (λ b. cell_line model.now r a b)))
         out.old out.new result }
     ensures few { result ≤ at + 1024 }
 {
@@ -90,8 +90,8 @@ fn put_row(out: &mut [u8], at: usize, model: &[u8], r: usize) -> usize
 
 // Appends the lines of the rows of n routines.
 pub fn put_rows(out: &mut [u8], at: usize, model: &[u8], n: usize) -> usize
-    requires { (at < 100) × (n ≤ most-routines) }
-    ensures appends { Appends at (pairLines n model.now) out.old out.new result }
+    requires { (at < 100) × (n ≤ most_routines) }
+    ensures appends { Appends at (pair_lines n model.now) out.old out.new result }
     ensures few { result ≤ at + 1024 * n }
 {
     let mut p = at;
@@ -105,7 +105,7 @@ pub fn put_rows(out: &mut [u8], at: usize, model: &[u8], n: usize) -> usize
 // Appends the line of a share.
 pub fn put_share(out: &mut [u8], at: usize, share: Share) -> usize
     requires { (at < 70000) × FewDigits share }
-    ensures appends { Appends at (shareLine share) out.old out.new result }
+    ensures appends { Appends at (share_line share) out.old out.new result }
     ensures few { result ≤ at + 15 }
 {
     let after_word = put(out, at, b"share");
@@ -118,7 +118,7 @@ pub fn put_share(out: &mut [u8], at: usize, share: Share) -> usize
 // Appends the line of a ring.
 fn put_ring(out: &mut [u8], at: usize, routine: u64, name: u64) -> usize
     requires { (at < 70000) × (routine < 100) × (name < 100) }
-    ensures appends { Appends at (line ring-word (routine ∷ name ∷ [])) out.old out.new result }
+    ensures appends { Appends at (line ring_word (routine ∷ name ∷ [])) out.old out.new result }
     ensures few { result ≤ at + 11 }
 {
     let after_word = put(out, at, b"ring");
@@ -130,7 +130,7 @@ fn put_ring(out: &mut [u8], at: usize, routine: u64, name: u64) -> usize
 // Appends the line of a verdict.
 pub fn put_verdict(out: &mut [u8], at: usize, verdict: Verdict) -> usize
     requires { (at < 70000) × Short verdict }
-    ensures appends { Appends at (verdictLine verdict) out.old out.new result }
+    ensures appends { Appends at (verdict_line verdict) out.old out.new result }
     ensures few { result ≤ at + 11 }
 {
     match verdict {

@@ -10,27 +10,27 @@ use lib.ListN.{length, get_or, get_elem?, take, replicate, get_or-replicate, len
 use lib.Seq.{get_or-take, take-suc, take_all}
 use Rattle.table.specs.Constants.{END, most_bytes}
 use Rattle.table.specs.WellFormed.{In}
-use Rattle.table.specs.laws.Lists.{getD-in}
+use Rattle.table.specs.Laws.Lists.{getD-in}
 use Rattle.table.specs.Program.{Program, params, body}
-use Rattle.canon.specs.Canonical.{met, allMet, calledBy, found, order}
-use Rattle.canon.specs.laws.Order.{found-step, found-reached, found-settled, found-few, order-enough, order-entry}
-use Rattle.canon.specs.laws.Lists.{entry_in, getD-entry}
-use Rattle.table.specs.laws.Formed.{well-formed}
-use Rattle.rules.specs.laws.Verdict.{reached-within}
+use Rattle.canon.specs.Canonical.{met, all_met, called_by, found, order}
+use Rattle.canon.specs.Laws.Order.{found_step, found_reached, found_settled, found_few, order_enough, order_entry}
+use Rattle.canon.specs.Laws.Lists.{entry_in, get_d_entry}
+use Rattle.table.specs.Laws.Formed.{well_formed}
+use Rattle.rules.specs.Laws.Verdict.{reached_within}
 use Rattle.order.specs.declared.Order.{Order}
-use Rattle.order.specs.Items.{items_of, flat, calledIn, sizes, bodySizes}
+use Rattle.order.specs.Items.{items_of, flat, called_in, sizes, body_sizes}
 use Rattle.order.specs.Standing.{HoldsAt, HeldAt, end_of}
 use Rattle.order.specs.Ordering.{list_of, Listed, Met, CanMeet, AllMet, Ordered}
-use Rattle.order.specs.laws.Items.{called-items, sizes-append, sizes-short}
-use Rattle.order.specs.laws.Standing.{bytes-there}
+use Rattle.order.specs.Laws.Items.{called_items, sizes_append, sizes_short}
+use Rattle.order.specs.Laws.Standing.{bytes_there}
 use Rattle.order.proofs.OrderLaws.{list_length}
-use Rattle.order.specs.laws.Program.{items-here, rest, few-routines, few_bytes}
+use Rattle.order.specs.Laws.Program.{items_here, rest, few_routines, few_bytes}
 
 -- no routine is met
-pub none-listed : (o : Order) → o.count ≡ 0 → length o.routines ≡ 64 → o.places ≡ replicate 64 64 → Listed o
-none-listed o z r p = record {
+pub none_listed : (o : Order) → o.count ≡ 0 → length o.routines ≡ 64 → o.places ≡ replicate 64 64 → Listed o
+none_listed o z r p = record {
   long = r;
-  places-long = rw p refl;
+  places_long = rw p refl;
   few = omega arith;
   once = rw nothing tt;
   below = λ x i. absurd (rw nothing at i);
@@ -45,13 +45,13 @@ none-listed o z r p = record {
 pub record Finding (ks s starts : List ℕ) (o : Order) (i : ℕ) : Type 0 where
   pub listed : Listed o
   pub list : (P : Program) → HoldsAt P ks s starts → list_of o ≡ found P i
-  pub bytes : (P : Program) → HoldsAt P ks s starts → o.bytes ≡ bodySizes P (take i (order P))
+  pub bytes : (P : Program) → HoldsAt P ks s starts → o.bytes ≡ body_sizes P (take i (order P))
   pub bound : o.bytes ≤ most_bytes * i
 
 module _ (ks s starts : List ℕ) where
-  pub finding-start : (blank o : Order) → blank.count ≡ 0 → blank.bytes ≡ 0 → Met blank o 0 → Finding ks s starts o 0
+  pub finding_start : (blank o : Order) → blank.count ≡ 0 → blank.bytes ≡ 0 → Met blank o 0 → Finding ks s starts o 0
   unfolding found
-  finding-start blank o z y m = record {
+  finding_start blank o z y m = record {
     listed = m.listed;
     list = λ P h. m.list ∙ alone P;
     bytes = λ P h. m.bytes ∙ y;
@@ -76,90 +76,90 @@ module _ (ks s starts : List ℕ) where
         subst (λ x. In x (list_of o)) (get_or-take o.count o.routines i 0 lt) (getD-in (list_of o) i (omega arith)).0
 
     below : (P : Program) → HoldsAt P ks s starts → here < length P
-    below P h = reached-within P (well-formed P h.holds.limits) here
-        (found-reached P i here (subst (In here) (g.list P h) inside))
+    below P h = reached_within P (well_formed P h.holds.limits) here
+        (found_reached P i here (subst (In here) (g.list P h) inside))
 
-    pub start-there : HeldAt ks s starts → here < length starts
-    start-there p = let a = below p.0 p.1 in let b = p.1.starts-long in omega arith
+    pub start_there : HeldAt ks s starts → here < length starts
+    start_there p = let a = below p.0 p.1 in let b = p.1.starts_long in omega arith
 
-    pub can-meet : (r at end : ℕ) → r ≡ here → at ≡ get_or starts r 0 → end ≡ end_of s starts r → HeldAt ks s starts
+    pub can_meet : (r at end : ℕ) → r ≡ here → at ≡ get_or starts r 0 → end ≡ end_of s starts r → HeldAt ks s starts
         → CanMeet ks s at end o
-    can-meet r at end e a b p = record {
+    can_meet r at end e a b p = record {
       old = params p.0 here + 1;
       items = items_of END (body p.0 here);
       rest = rest p.0 ks s starts p.1 here (below p.0 p.1);
-      items_at = rw (a, b, e) (items-here p.0 ks s starts p.1 here (below p.0 p.1));
+      items_at = rw (a, b, e) (items_here p.0 ks s starts p.1 here (below p.0 p.1));
       listed = g.listed;
-      few = few-routines p.0 ks s starts p.1;
+      few = few_routines p.0 ks s starts p.1;
       section = few_bytes p.0 ks s starts p.1;
       room = let x = g.bound in let y = g.listed.few in omega arith;
     }
 
     -- the routine is there in the order, and its body is the next one that is read
-    next-body : (P : Program) → HoldsAt P ks s starts → take (i + 1) (order P) ≡ take i (order P) ++ (here ∷ [])
-    next-body P h =
+    next_body : (P : Program) → HoldsAt P ks s starts → take (i + 1) (order P) ≡ take i (order P) ++ (here ∷ [])
+    next_body P h =
         let a = list_length o g.listed in
         let b = ap length (g.list P h) in
-        let c = found-few P (well-formed P h.holds.limits) i in
-        let e = order-entry P i i here (omega arith)
+        let c = found_few P (well_formed P h.holds.limits) i in
+        let e = order_entry P i i here (omega arith)
         (subst (λ (l : List ℕ). get_elem? l i ≡ some here) (g.list P h) entry) in
         ap (λ n. take n (order P)) (add-one i) ∙ take-suc (order P) i 0 (entry_in (order P) i here e).1
-        ∙ ap (λ x. take i (order P) ++ (x ∷ [])) (getD-entry (order P) i here 0 e)
+        ∙ ap (λ x. take i (order P) ++ (x ∷ [])) (get_d_entry (order P) i here 0 e)
 
     module _ (r at end : ℕ) (v : Order) (e : r ≡ here) (a : at ≡ get_or starts r 0) (b : end ≡ end_of s starts r)
         (m : AllMet ks s at end o v) where
       -- what was met in the body, and its bytes
-      met-there : (P : Program) (h : HoldsAt P ks s starts)
-          → (list_of v ≡ allMet (list_of o) (calledIn (items_of END (body P here))))
+      met_there : (P : Program) (h : HoldsAt P ks s starts)
+          → (list_of v ≡ all_met (list_of o) (called_in (items_of END (body P here))))
           × (v.bytes ≡ o.bytes + sizes (items_of END (body P here)))
-      met-there P h =
+      met_there P h =
           m.list (params P here + 1) (items_of END (body P here)) (rest P ks s starts h here (below P h))
-          (rw (a, b, e) (items-here P ks s starts h here (below P h)))
+          (rw (a, b, e) (items_here P ks s starts h here (below P h)))
 
-      next-list : (P : Program) → HoldsAt P ks s starts → list_of v ≡ found P (i + 1)
-      next-list P h =
-          let d : calledBy P (get_elem? (found P i) i) ≡ calledBy P (some here) =
-          ap (calledBy P) (ap (λ (l : List ℕ). get_elem? l i) (sym (g.list P h)) ∙ entry) in
-          (met-there P h).0 ∙ ap (allMet (list_of o)) (called-items END (body P here))
-          ∙ ap (λ (l : List ℕ). allMet l (calledBy P (some here))) (g.list P h)
-          ∙ ap (allMet (found P i)) (sym d) ∙ sym (found-step P i) ∙ ap (found P) (sym (add-one i))
+      next_list : (P : Program) → HoldsAt P ks s starts → list_of v ≡ found P (i + 1)
+      next_list P h =
+          let d : called_by P (get_elem? (found P i) i) ≡ called_by P (some here) =
+          ap (called_by P) (ap (λ (l : List ℕ). get_elem? l i) (sym (g.list P h)) ∙ entry) in
+          (met_there P h).0 ∙ ap (all_met (list_of o)) (called_items END (body P here))
+          ∙ ap (λ (l : List ℕ). all_met l (called_by P (some here))) (g.list P h)
+          ∙ ap (all_met (found P i)) (sym d) ∙ sym (found_step P i) ∙ ap (found P) (sym (add-one i))
 
-      next-bytes : (P : Program) → HoldsAt P ks s starts → v.bytes ≡ bodySizes P (take (i + 1) (order P))
-      next-bytes P h =
-          let c = (met-there P h).1 in
+      next_bytes : (P : Program) → HoldsAt P ks s starts → v.bytes ≡ body_sizes P (take (i + 1) (order P))
+      next_bytes P h =
+          let c = (met_there P h).1 in
           let d = g.bytes P h in
-          let f = ap (bodySizes P) (next-body P h) ∙ sizes-append P (take i (order P)) (here ∷ []) in
+          let f = ap (body_sizes P) (next_body P h) ∙ sizes_append P (take i (order P)) (here ∷ []) in
           omega arith
 
-      pub finding-on : HeldAt ks s starts → Finding ks s starts v (i + 1)
-      finding-on p = record { listed = m.listed; list = next-list; bytes = next-bytes; bound = few-more }
+      pub finding_on : HeldAt ks s starts → Finding ks s starts v (i + 1)
+      finding_on p = record { listed = m.listed; list = next_list; bytes = next_bytes; bound = few_more }
         where
-          few-more : v.bytes ≤ most_bytes * (i + 1)
-          few-more =
+          few_more : v.bytes ≤ most_bytes * (i + 1)
+          few_more =
               let P = p.0 in
               let h = p.1 in
-              let it = items-here P ks s starts h here (below P h) in
-              let c = (met-there P h).1 in
-              let d = sizes-short (items_of END (body P here)) in
+              let it = items_here P ks s starts h here (below P h) in
+              let c = (met_there P h).1 in
+              let d = sizes_short (items_of END (body P here)) in
               let f = it.ends in
-              let k = bytes-there s (get_or starts here 0) _ it.content in
+              let k = bytes_there s (get_or starts here 0) _ it.content in
               let q = length-append (flat (items_of END (body P here))) (rest P ks s starts h here (below P h)) in
               let n = few_bytes P ks s starts h in
               let x = g.bound in
               omega arith
 
-  pub finding-end : (o : Order) (i : ℕ) → Finding ks s starts o i → o.count ≤ i → Ordered ks s starts o
-  finding-end o i g le = record { listed = g.listed; list = last; bytes = whole }
+  pub finding_end : (o : Order) (i : ℕ) → Finding ks s starts o i → o.count ≤ i → Ordered ks s starts o
+  finding_end o i g le = record { listed = g.listed; list = last; bytes = whole }
     where
       last : (P : Program) → HoldsAt P ks s starts → list_of o ≡ order P
       last P h =
           let a = list_length o g.listed in
           let b : length (found P i) ≤ i = rw (sym (g.list P h)) (omega arith) in
-          g.list P h ∙ sym (found-settled P i (length P) b) ∙ ap (found P) (add_comm i (length P))
-          ∙ order-enough P (well-formed P h.holds.limits) i
+          g.list P h ∙ sym (found_settled P i (length P) b) ∙ ap (found P) (add_comm i (length P))
+          ∙ order_enough P (well_formed P h.holds.limits) i
 
-      whole : (P : Program) → HoldsAt P ks s starts → o.bytes ≡ bodySizes P (order P)
+      whole : (P : Program) → HoldsAt P ks s starts → o.bytes ≡ body_sizes P (order P)
       whole P h =
           let a = list_length o g.listed in
           let b = ap length (last P h) in
-          g.bytes P h ∙ ap (bodySizes P) (take_all i (order P) (omega arith))
+          g.bytes P h ∙ ap (body_sizes P) (take_all i (order P) (omega arith))

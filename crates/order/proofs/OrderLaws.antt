@@ -10,19 +10,19 @@ use native.Mathlib.Omega.{arith}
 use lib.ListN.{length, get_or, get_elem?, set, take, length-set, length-append}
 use lib.Seq.{length-take-le, take-suc-set, get_or-set_same, get_or-set_other}
 use Rattle.table.specs.WellFormed.{In, NoDup}
-use Rattle.table.specs.laws.Lists.{In-split}
+use Rattle.table.specs.Laws.Lists.{In-split}
 use Rattle.canon.specs.Canonical.{met, position}
-use Rattle.canon.specs.laws.Lists.{by-met, met-last, met-old, met-new, met-only, met-once, below-few, entry-left}
-use Rattle.canon.specs.laws.Lists.{position-entry}
-use Rattle.canon.specs.laws.Lists.{position-below, position-once}
+use Rattle.canon.specs.Laws.Lists.{by-met, met_last, met_old, met_new, met_only, met_once, below_few, entry_left}
+use Rattle.canon.specs.Laws.Lists.{position_entry}
+use Rattle.canon.specs.Laws.Lists.{position_below, position_once}
 use Rattle.order.specs.declared.Order.{Order}
 use Rattle.order.specs.Ordering.{order_of, list_of, Listed, Met, Meets}
 
 -- the bytes do not matter
-pub listed-bytes : (o : Order) (b : ℕ) → Listed o → Listed (order_of o.routines o.places o.count b)
-listed-bytes o b l = record {
+pub listed_bytes : (o : Order) (b : ℕ) → Listed o → Listed (order_of o.routines o.places o.count b)
+listed_bytes o b l = record {
   long = l.long;
-  places-long = l.places-long;
+  places_long = l.places_long;
   few = l.few;
   once = l.once;
   below = l.below;
@@ -34,36 +34,36 @@ pub list_length : (o : Order) → Listed o → length (list_of o) ≡ o.count
 list_length o l = length-take-le o.count o.routines (let a = l.long in let b = l.few in omega arith)
 
 -- a routine with a place was met before
-place-met : (o : Order) (r : ℕ) → Listed o → r < 64 → get_or o.places r 0 ≢ 64 → Met o o r
-place-met o r l lt n = record {
+place_met : (o : Order) (r : ℕ) → Listed o → r < 64 → get_or o.places r 0 ≢ 64 → Met o o r
+place_met o r l lt n = record {
   listed = l;
   list = by-met (λ (t : List ℕ). list_of o ≡ t) (list_of o) r (λ i. refl) (λ m. absurd (n (l.unplaced r lt m)));
   bytes = refl;
 }
 
 -- a routine without one was not
-place-new : (o : Order) (r : ℕ) → Listed o → get_or o.places r 0 ≡ 64 → In r (list_of o) → ⊥
-place-new o r l e i =
+place_new : (o : Order) (r : ℕ) → Listed o → get_or o.places r 0 ≡ 64 → In r (list_of o) → ⊥
+place_new o r l e i =
     let a = l.placed r i in
-    let b = position-below (list_of o) r i in
+    let b = position_below (list_of o) r i in
     let c = list_length o l in
     let d = l.few in
     omega arith
 
 -- and there is room for it
-pub place-room : (o : Order) (r : ℕ) → Listed o → r < 64 → get_or o.places r 0 ≡ 64 → o.count < 64
-place-room o r l lt e =
-    let n = place-new o r l e in
-    let h = below-few 64 (met (list_of o) r) (met-once (list_of o) r l.once)
-    (λ x i. elim (met-only (list_of o) r x i) [ inl j ↦ l.below x j | inr p ↦ rw p lt ]) in
-    let g : length (list_of o ++ (r ∷ [])) ≤ 64 = rw (met-last (list_of o) r n) at h in
+pub place_room : (o : Order) (r : ℕ) → Listed o → r < 64 → get_or o.places r 0 ≡ 64 → o.count < 64
+place_room o r l lt e =
+    let n = place_new o r l e in
+    let h = below_few 64 (met (list_of o) r) (met_once (list_of o) r l.once)
+    (λ x i. elim (met_only (list_of o) r x i) [ inl j ↦ l.below x j | inr p ↦ rw p lt ]) in
+    let g : length (list_of o ++ (r ∷ [])) ≤ 64 = rw (met_last (list_of o) r n) at h in
     let a = length-append (list_of o) (r ∷ []) in
     let c = list_length o l in
     omega arith
 
-entry-end : (l : List ℕ) (r : ℕ) → get_elem? (l ++ (r ∷ [])) (length l) ≡ some r
-entry-end [] r = refl
-entry-end (x ∷ l) r = entry-end l r
+entry_end : (l : List ℕ) (r : ℕ) → get_elem? (l ++ (r ∷ [])) (length l) ≡ some r
+entry_end [] r = refl
+entry_end (x ∷ l) r = entry_end l r
 
 -- the order with r at its end
 abbrev longer : Order → ℕ → Order
@@ -75,55 +75,55 @@ longer o r = record {
 }
 
 module _ (o : Order) (r : ℕ) (l : Listed o) (lt : r < 64) (e : get_or o.places r 0 ≡ 64) where
-  list-longer : list_of (longer o r) ≡ list_of o ++ (r ∷ [])
-  list-longer = ap (λ n. take n (set o.routines o.count r)) (add-one o.count)
-      ∙ take-suc-set o.routines o.count r (let a = place-room o r l lt e in let b = l.long in omega arith)
+  list_longer : list_of (longer o r) ≡ list_of o ++ (r ∷ [])
+  list_longer = ap (λ n. take n (set o.routines o.count r)) (add-one o.count)
+      ∙ take-suc-set o.routines o.count r (let a = place_room o r l lt e in let b = l.long in omega arith)
 
-  list-met : list_of (longer o r) ≡ met (list_of o) r
-  list-met = list-longer ∙ sym (met-last (list_of o) r (place-new o r l e))
+  list_met : list_of (longer o r) ≡ met (list_of o) r
+  list_met = list_longer ∙ sym (met_last (list_of o) r (place_new o r l e))
 
-  placed-longer : (q : ℕ) → In q (list_of o ++ (r ∷ []))
+  placed_longer : (q : ℕ) → In q (list_of o ++ (r ∷ []))
       → get_or (set o.places r o.count) q 0 ≡ position (list_of o ++ (r ∷ [])) q
-  placed-longer q i = go (ℕ_discrete q r) (In-split q (list_of o) (r ∷ []) i)
+  placed_longer q i = go (ℕ_discrete q r) (In-split q (list_of o) (r ∷ []) i)
     where
       once : NoDup (list_of o ++ (r ∷ []))
-      once = rw (met-last (list_of o) r (place-new o r l e)) at (met-once (list_of o) r l.once)
+      once = rw (met_last (list_of o) r (place_new o r l e)) at (met_once (list_of o) r l.once)
 
       go : Dec (q ≡ r) → In q (list_of o) ⊎ In q (r ∷ [])
           → get_or (set o.places r o.count) q 0 ≡ position (list_of o ++ (r ∷ [])) q
       go (yes p) j = rw p
-          (get_or-set_same o.places r o.count 0 (let a = l.places-long in omega arith)
-          ∙ sym (position-once (list_of o ++ (r ∷ [])) (length (list_of o)) r once (entry-end (list_of o) r) ∙ list_length
+          (get_or-set_same o.places r o.count 0 (let a = l.places_long in omega arith)
+          ∙ sym (position_once (list_of o ++ (r ∷ [])) (length (list_of o)) r once (entry_end (list_of o) r) ∙ list_length
           o l))
       go (no p) (inl j) = get_or-set_other o.places r q o.count 0 p ∙ l.placed q j
-          ∙ sym (position-once (list_of o ++ (r ∷ [])) (position (list_of o) q) q once
-          (entry-left (list_of o) (r ∷ []) (position (list_of o) q) q (position-entry (list_of o) q j)))
+          ∙ sym (position_once (list_of o ++ (r ∷ [])) (position (list_of o) q) q once
+          (entry_left (list_of o) (r ∷ []) (position (list_of o) q) q (position_entry (list_of o) q j)))
       go (no p) (inr (inl j)) = absurd (p j)
       go (no p) (inr (inr z)) = absurd z
 
-  meet-new : Met o (longer o r) r
-  meet-new = record {
-    list = list-met;
+  meet_new : Met o (longer o r) r
+  meet_new = record {
+    list = list_met;
     bytes = refl;
     listed = record {
       long = length-set o.routines o.count r ∙ l.long;
-      places-long = length-set o.places r o.count ∙ l.places-long;
-      few = let a = place-room o r l lt e in omega arith;
-      once = rw list-met (met-once (list_of o) r l.once);
-      below = λ x i. elim (met-only (list_of o) r x (rw list-met at i)) [ inl j ↦ l.below x j | inr p ↦ rw p lt ];
-      placed = λ q i. rw list-longer (placed-longer q (rw list-longer at i));
+      places_long = length-set o.places r o.count ∙ l.places_long;
+      few = let a = place_room o r l lt e in omega arith;
+      once = rw list_met (met_once (list_of o) r l.once);
+      below = λ x i. elim (met_only (list_of o) r x (rw list_met at i)) [ inl j ↦ l.below x j | inr p ↦ rw p lt ];
+      placed = λ q i. rw list_longer (placed_longer q (rw list_longer at i));
       unplaced = λ q k n. get_or-set_other o.places r q o.count 0
-          (λ p. n (rw (list-met, p) (met-new (list_of o) r)))
-          ∙ l.unplaced q k (λ j. n (rw list-met (met-old (list_of o) r q j)));
+          (λ p. n (rw (list_met, p) (met_new (list_of o) r)))
+          ∙ l.unplaced q k (λ j. n (rw list_met (met_old (list_of o) r q j)));
     };
   }
 
 module _ (routines places : List ℕ) (count r : ℕ) (l : Listed (order_of routines places count 0)) (lt : r < 64) where
-  pub meets-old : get_or places r 0 ≢ 64 → Meets routines places count routines places count r
-  meets-old n b =
-      place-met (order_of routines places count b) r (listed-bytes (order_of routines places count 0) b l) lt n
+  pub meets_old : get_or places r 0 ≢ 64 → Meets routines places count routines places count r
+  meets_old n b =
+      place_met (order_of routines places count b) r (listed_bytes (order_of routines places count 0) b l) lt n
 
-  pub meets-new : get_or places r 0 ≡ 64
+  pub meets_new : get_or places r 0 ≡ 64
       → Meets routines places count (set routines count r) (set places r count) (count + 1) r
-  meets-new e b =
-      meet-new (order_of routines places count b) r (listed-bytes (order_of routines places count 0) b l) lt e
+  meets_new e b =
+      meet_new (order_of routines places count b) r (listed_bytes (order_of routines places count 0) b l) lt e

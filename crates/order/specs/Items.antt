@@ -22,26 +22,26 @@ items_of z (choice a b c) = mark (code CHOICE) ∷ (items_of OTHER a ++ (items_o
 items_of z (call r xs c) = calling r xs ∷ items_of z c
 
 -- the bytes of an item
-abbrev pub itemBytes : Item → List ℕ
-itemBytes (mark b) = b ∷ []
-itemBytes making = code NEW ∷ []
-itemBytes (mirroring y) = code MIRROR ∷ y ∷ []
-itemBytes (locking x) = code LOCK ∷ x ∷ []
-itemBytes (calling r xs) = code CALL ∷ r ∷ xs
+abbrev pub item_bytes : Item → List ℕ
+item_bytes (mark b) = b ∷ []
+item_bytes making = code NEW ∷ []
+item_bytes (mirroring y) = code MIRROR ∷ y ∷ []
+item_bytes (locking x) = code LOCK ∷ x ∷ []
+item_bytes (calling r xs) = code CALL ∷ r ∷ xs
 
 -- the bytes of items
 abbrev pub flat : List Item → List ℕ
 flat [] = []
-flat (t ∷ ts) = itemBytes t ++ flat ts
+flat (t ∷ ts) = item_bytes t ++ flat ts
 
 -- the routines that they call
-abbrev pub calledIn : List Item → List ℕ
-calledIn [] = []
-calledIn (mark b ∷ ts) = calledIn ts
-calledIn (making ∷ ts) = calledIn ts
-calledIn (mirroring y ∷ ts) = calledIn ts
-calledIn (locking x ∷ ts) = calledIn ts
-calledIn (calling r xs ∷ ts) = r ∷ calledIn ts
+abbrev pub called_in : List Item → List ℕ
+called_in [] = []
+called_in (mark b ∷ ts) = called_in ts
+called_in (making ∷ ts) = called_in ts
+called_in (mirroring y ∷ ts) = called_in ts
+called_in (locking x ∷ ts) = called_in ts
+called_in (calling r xs ∷ ts) = r ∷ called_in ts
 
 -- how many bytes of an item the canonical table has: none of a MIRROR
 abbrev pub size_of : Item → ℕ
@@ -57,6 +57,6 @@ sizes [] = 0
 sizes (t ∷ ts) = size_of t + sizes ts
 
 -- and how many of the bodies of routines
-abbrev pub bodySizes : Program → List ℕ → ℕ
-bodySizes P [] = 0
-bodySizes P (r ∷ rs) = sizes (items_of END (body P r)) + bodySizes P rs
+abbrev pub body_sizes : Program → List ℕ → ℕ
+body_sizes P [] = 0
+body_sizes P (r ∷ rs) = sizes (items_of END (body P r)) + body_sizes P rs

@@ -2,4 +2,4 @@
 pub mod Items
 pub mod Standing
 pub mod Ordering
-pub mod laws
+pub mod Laws

@@ -1,7 +1,7 @@
 // The order in which routines are first met, reading bodies in new-number order from routine 0, and how long the bodies
 // of these routines are without their mirrors.
 ghost use Rattle.std.specs.Prelude.{◌≡◌, ◌<◌, length};
-ghost use Rattle.table.specs.Constants.{most-routines};
+ghost use Rattle.table.specs.Constants.{most_routines};
 ghost use Rattle.order.specs.Standing.{HeldAt, end_of};
 ghost use Rattle.order.specs.Ordering.{order_of, Listed, Meets, kept, CanMeet, AllMet, Ordered};
 
@@ -37,7 +37,7 @@ fn meet(
     count: usize,
     r: u8,
 ) -> usize
-    requires { Listed (order_of routines.old places.old count 0) × (r < most-routines) }
+    requires { Listed (order_of routines.old places.old count 0) × (r < most_routines) }
     ensures { Meets routines.old places.old count routines.new
         places.new result r }
 {

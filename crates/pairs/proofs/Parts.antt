@@ -13,9 +13,9 @@ use Rattle.pairs.proofs.Pending.{CallIn, CallAt, PairIn, PairAt}
 
 -- what holds of what is left holds of the item or of what is left past it, and the other way round
 module _ (H F : Code → Place → Type 0) where
-  pub left-past : ((c : Code) (π : Place) → F c π → InParts H F c π)
+  pub left_past : ((c : Code) (π : Place) → F c π → InParts H F c π)
       → (ls : List Level) → InLeft F ls → AtItem H ls ⊎ InLeft F (past ls)
-  left-past f (level c u π ∷ ls) (inl p) = first c u π ls (f c π p)
+  left_past f (level c u π ∷ ls) (inl p) = first c u π ls (f c π p)
     where
       first : (c : Code) (u : Option Alternative) (π : Place) (ls : List Level) → InParts H F c π
           → H c π ⊎ InLeft F (past (level c u π ∷ ls))
@@ -31,54 +31,54 @@ module _ (H F : Code → Place → Type 0) where
       first (call r xs c) u π ls (inl q) = inl q
       first (call r xs c) u π ls (inr q) = inr (inl q)
       first (mirror x y c) u π ls q = inr (inl q)
-  left-past f (level end none π ∷ ls) (inr (inr p)) = inr p
-  left-past f (level end (some (other b κ)) π ∷ ls) (inr (inl p)) = inr (inl p)
-  left-past f (level end (some (other b κ)) π ∷ ls) (inr (inr p)) = inr (inr (inr p))
-  left-past f (level (new x c) u π ∷ ls) (inr p) = inr (inr p)
-  left-past f (level (lock x c d) u π ∷ ls) (inr p) = inr (inr (inr (inr p)))
-  left-past f (level (fork i c d) u π ∷ ls) (inr p) = inr (inr (inr (inr p)))
-  left-past f (level (choice a b c) u π ∷ ls) (inr p) = inr (inr (inr (inr p)))
-  left-past f (level (call r xs c) u π ∷ ls) (inr p) = inr (inr p)
-  left-past f (level (mirror x y c) u π ∷ ls) (inr p) = inr (inr p)
+  left_past f (level end none π ∷ ls) (inr (inr p)) = inr p
+  left_past f (level end (some (other b κ)) π ∷ ls) (inr (inl p)) = inr (inl p)
+  left_past f (level end (some (other b κ)) π ∷ ls) (inr (inr p)) = inr (inr (inr p))
+  left_past f (level (new x c) u π ∷ ls) (inr p) = inr (inr p)
+  left_past f (level (lock x c d) u π ∷ ls) (inr p) = inr (inr (inr (inr p)))
+  left_past f (level (fork i c d) u π ∷ ls) (inr p) = inr (inr (inr (inr p)))
+  left_past f (level (choice a b c) u π ∷ ls) (inr p) = inr (inr (inr (inr p)))
+  left_past f (level (call r xs c) u π ∷ ls) (inr p) = inr (inr p)
+  left_past f (level (mirror x y c) u π ∷ ls) (inr p) = inr (inr p)
 
   module _ (g : (c : Code) (π : Place) → InParts H F c π → F c π) where
-    pub past-left : (ls : List Level) → InLeft F (past ls) → InLeft F ls
-    past-left (level end none π ∷ ls) p = inr (inr p)
-    past-left (level end (some (other b κ)) π ∷ ls) (inl p) = inr (inl p)
-    past-left (level end (some (other b κ)) π ∷ ls) (inr (inr p)) = inr (inr p)
-    past-left (level (new x c) u π ∷ ls) (inl p) = inl (g _ π p)
-    past-left (level (new x c) u π ∷ ls) (inr p) = inr p
-    past-left (level (lock x c d) u π ∷ ls) (inl p) = inl (g _ π (inr (inl p)))
-    past-left (level (lock x c d) u π ∷ ls) (inr (inr (inl p))) = inl (g _ π (inr (inr p)))
-    past-left (level (lock x c d) u π ∷ ls) (inr (inr (inr p))) = inr p
-    past-left (level (fork i c d) u π ∷ ls) (inl p) = inl (g _ π (inl p))
-    past-left (level (fork i c d) u π ∷ ls) (inr (inr (inl p))) = inl (g _ π (inr p))
-    past-left (level (fork i c d) u π ∷ ls) (inr (inr (inr p))) = inr p
-    past-left (level (choice a b c) u π ∷ ls) (inl p) = inl (g _ π (inl p))
-    past-left (level (choice a b c) u π ∷ ls) (inr (inl p)) = inl (g _ π (inr (inl p)))
-    past-left (level (choice a b c) u π ∷ ls) (inr (inr (inl p))) = inl (g _ π (inr (inr p)))
-    past-left (level (choice a b c) u π ∷ ls) (inr (inr (inr p))) = inr p
-    past-left (level (call r xs c) u π ∷ ls) (inl p) = inl (g _ π (inr p))
-    past-left (level (call r xs c) u π ∷ ls) (inr p) = inr p
-    past-left (level (mirror x y c) u π ∷ ls) (inl p) = inl (g _ π p)
-    past-left (level (mirror x y c) u π ∷ ls) (inr p) = inr p
+    pub past_left : (ls : List Level) → InLeft F (past ls) → InLeft F ls
+    past_left (level end none π ∷ ls) p = inr (inr p)
+    past_left (level end (some (other b κ)) π ∷ ls) (inl p) = inr (inl p)
+    past_left (level end (some (other b κ)) π ∷ ls) (inr (inr p)) = inr (inr p)
+    past_left (level (new x c) u π ∷ ls) (inl p) = inl (g _ π p)
+    past_left (level (new x c) u π ∷ ls) (inr p) = inr p
+    past_left (level (lock x c d) u π ∷ ls) (inl p) = inl (g _ π (inr (inl p)))
+    past_left (level (lock x c d) u π ∷ ls) (inr (inr (inl p))) = inl (g _ π (inr (inr p)))
+    past_left (level (lock x c d) u π ∷ ls) (inr (inr (inr p))) = inr p
+    past_left (level (fork i c d) u π ∷ ls) (inl p) = inl (g _ π (inl p))
+    past_left (level (fork i c d) u π ∷ ls) (inr (inr (inl p))) = inl (g _ π (inr p))
+    past_left (level (fork i c d) u π ∷ ls) (inr (inr (inr p))) = inr p
+    past_left (level (choice a b c) u π ∷ ls) (inl p) = inl (g _ π (inl p))
+    past_left (level (choice a b c) u π ∷ ls) (inr (inl p)) = inl (g _ π (inr (inl p)))
+    past_left (level (choice a b c) u π ∷ ls) (inr (inr (inl p))) = inl (g _ π (inr (inr p)))
+    past_left (level (choice a b c) u π ∷ ls) (inr (inr (inr p))) = inr p
+    past_left (level (call r xs c) u π ∷ ls) (inl p) = inl (g _ π (inr p))
+    past_left (level (call r xs c) u π ∷ ls) (inr p) = inr p
+    past_left (level (mirror x y c) u π ∷ ls) (inl p) = inl (g _ π p)
+    past_left (level (mirror x y c) u π ∷ ls) (inr p) = inr p
 
 -- the calls and the pairs of a code are those of its first item and of its parts
-pub call-parts : (q : ℕ) (c : Code) (π : Place) → CallIn q c π → InParts (CallAt q) (CallIn q) c π
-call-parts q (new x c) π p = p
-call-parts q (lock x c d) π p = inr p
-call-parts q (fork i c d) π p = p
-call-parts q (choice a b c) π p = p
-call-parts q (call r xs c) π p = p
-call-parts q (mirror x y c) π p = p
+pub call_parts : (q : ℕ) (c : Code) (π : Place) → CallIn q c π → InParts (CallAt q) (CallIn q) c π
+call_parts q (new x c) π p = p
+call_parts q (lock x c d) π p = inr p
+call_parts q (fork i c d) π p = p
+call_parts q (choice a b c) π p = p
+call_parts q (call r xs c) π p = p
+call_parts q (mirror x y c) π p = p
 
-pub parts-call : (q : ℕ) (c : Code) (π : Place) → InParts (CallAt q) (CallIn q) c π → CallIn q c π
-parts-call q (new x c) π p = p
-parts-call q (lock x c d) π (inr p) = p
-parts-call q (fork i c d) π p = p
-parts-call q (choice a b c) π p = p
-parts-call q (call r xs c) π p = p
-parts-call q (mirror x y c) π p = p
+pub parts_call : (q : ℕ) (c : Code) (π : Place) → InParts (CallAt q) (CallIn q) c π → CallIn q c π
+parts_call q (new x c) π p = p
+parts_call q (lock x c d) π (inr p) = p
+parts_call q (fork i c d) π p = p
+parts_call q (choice a b c) π p = p
+parts_call q (call r xs c) π p = p
+parts_call q (mirror x y c) π p = p
 
 pub call_at : (q : ℕ) (ls : List Level) → AtItem (CallAt q) ls → InLeft (CallIn q) ls
 call_at q (level (call r xs c) u π ∷ ls) p = inl (inl p)
@@ -93,15 +93,15 @@ module _ (R : Pairs) (a b : ℕ) (l : Label) where
   pair_parts (call r xs c) π p = p
   pair_parts (mirror x y c) π p = p
 
-  pub parts-pair : (c : Code) (π : Place) → InParts (PairAt R a b l) (PairIn R a b l) c π → PairIn R
+  pub parts_pair : (c : Code) (π : Place) → InParts (PairAt R a b l) (PairIn R a b l) c π → PairIn R
       a b l c π
-  parts-pair (new x c) π p = p
-  parts-pair (lock x c d) π p = p
-  parts-pair (fork i c d) π p = p
-  parts-pair (choice u v c) π p = p
-  parts-pair (call r xs c) π p = p
-  parts-pair (mirror x y c) π p = p
+  parts_pair (new x c) π p = p
+  parts_pair (lock x c d) π p = p
+  parts_pair (fork i c d) π p = p
+  parts_pair (choice u v c) π p = p
+  parts_pair (call r xs c) π p = p
+  parts_pair (mirror x y c) π p = p
 
-  pub pair-at : (ls : List Level) → AtItem (PairAt R a b l) ls → InLeft (PairIn R a b l) ls
-  pair-at (level (lock x c d) u π ∷ ls) p = inl (inl p)
-  pair-at (level (call r xs c) u π ∷ ls) p = inl (inl p)
+  pub pair_at : (ls : List Level) → AtItem (PairAt R a b l) ls → InLeft (PairIn R a b l) ls
+  pair_at (level (lock x c d) u π ∷ ls) p = inl (inl p)
+  pair_at (level (call r xs c) u π ∷ ls) p = inl (inl p)

@@ -5,19 +5,19 @@ use mathlib.Core.List.{List, [], ◌∷◌, ◌++◌, map}
 use mathlib.Core.Option.{Option, none, some}
 use Prim.Native.Nat.{ℕ, ◌+◌, ◌≤◌, ◌<◌}
 use lib.ListN.{length, get_or, drop}
-use Rattle.table.specs.Constants.{Op, END, NEW, LOCK, FORK, CHOICE, OTHER, CALL, MIRROR, code, most-open}
-use Rattle.table.specs.Constants.{most-forks, most-names}
+use Rattle.table.specs.Constants.{Op, END, NEW, LOCK, FORK, CHOICE, OTHER, CALL, MIRROR, code, most_open}
+use Rattle.table.specs.Constants.{most_forks, most_names}
 use Rattle.table.specs.Program.{Code, end, new, lock, fork, choice, call, mirror, locals, forks}
 use Rattle.table.specs.WellFormed.{In}
 use Rattle.table.specs.Encoding.{encode, Numbered, depth}
 use Rattle.rules.specs.Label.{Label}
-use Rattle.rules.specs.Model.{Place, naming, underLock, underFork}
+use Rattle.rules.specs.Model.{Place, naming, under_lock, under_fork}
 use Rattle.rules.specs.Number.{label_of}
 use Rattle.rules.specs.Verdict.{Calls}
 use Rattle.rules.specs.Derived.{Pairs, RecordedFrom}
 use Rattle.grid.specs.Rows.{Bits}
-use Rattle.table.specs.laws.Fine.{Calling, Uses}
-use Rattle.pairs.specs.Walks.{heldBy, rootOf}
+use Rattle.table.specs.Laws.Fine.{Calling, Uses}
+use Rattle.pairs.specs.Walks.{held_by, root_of}
 use Rattle.pairs.specs.Gains.{CallGives}
 
 -- a second alternative, and its place in the rules' terms
@@ -34,25 +34,25 @@ closer none = END
 closer (some b) = OTHER
 
 -- the bytes of a second alternative
-abbrev pub secondBytes : Option Alternative → List ℕ
-secondBytes none = []
-secondBytes (some (other b κ)) = encode END b
+abbrev pub second_bytes : Option Alternative → List ℕ
+second_bytes none = []
+second_bytes (some (other b κ)) = encode END b
 
 -- the bytes that are left, the innermost level first
 abbrev pub bytes : List Level → List ℕ
 bytes [] = []
-bytes (level c u π ∷ ls) = encode (closer u) c ++ (secondBytes u ++ bytes ls)
+bytes (level c u π ∷ ls) = encode (closer u) c ++ (second_bytes u ++ bytes ls)
 
 -- the bytes of the item at the place
-abbrev pub itemBytes : List Level → List ℕ
-itemBytes [] = []
-itemBytes (level end u π ∷ ls) = code (closer u) ∷ []
-itemBytes (level (new x c) u π ∷ ls) = code NEW ∷ []
-itemBytes (level (lock x c d) u π ∷ ls) = code LOCK ∷ x ∷ []
-itemBytes (level (fork i c d) u π ∷ ls) = code FORK ∷ []
-itemBytes (level (choice a b c) u π ∷ ls) = code CHOICE ∷ []
-itemBytes (level (call r xs c) u π ∷ ls) = code CALL ∷ r ∷ xs
-itemBytes (level (mirror x y c) u π ∷ ls) = code MIRROR ∷ y ∷ []
+abbrev pub item_bytes : List Level → List ℕ
+item_bytes [] = []
+item_bytes (level end u π ∷ ls) = code (closer u) ∷ []
+item_bytes (level (new x c) u π ∷ ls) = code NEW ∷ []
+item_bytes (level (lock x c d) u π ∷ ls) = code LOCK ∷ x ∷ []
+item_bytes (level (fork i c d) u π ∷ ls) = code FORK ∷ []
+item_bytes (level (choice a b c) u π ∷ ls) = code CHOICE ∷ []
+item_bytes (level (call r xs c) u π ∷ ls) = code CALL ∷ r ∷ xs
+item_bytes (level (mirror x y c) u π ∷ ls) = code MIRROR ∷ y ∷ []
 
 -- the levels past the item
 abbrev pub past : List Level → List Level
@@ -60,8 +60,8 @@ past [] = []
 past (level end none π ∷ ls) = ls
 past (level end (some (other b κ)) π ∷ ls) = level b none κ ∷ ls
 past (level (new x c) u π ∷ ls) = level c u (naming x x π) ∷ ls
-past (level (lock x c d) u π ∷ ls) = level c none (underLock (π.roots x) π) ∷ level d u π ∷ ls
-past (level (fork i c d) u π ∷ ls) = level c none (underFork i π) ∷ level d u π ∷ ls
+past (level (lock x c d) u π ∷ ls) = level c none (under_lock (π.roots x) π) ∷ level d u π ∷ ls
+past (level (fork i c d) u π ∷ ls) = level c none (under_fork i π) ∷ level d u π ∷ ls
 past (level (choice a b c) u π ∷ ls) = level a (some (other b π)) π ∷ level c u π ∷ ls
 past (level (call r xs c) u π ∷ ls) = level c u π ∷ ls
 past (level (mirror x y c) u π ∷ ls) = level c u (naming x (π.roots y) π) ∷ ls
@@ -69,7 +69,7 @@ past (level (mirror x y c) u π ∷ ls) = level c u (naming x (π.roots y) π) �
 -- a code that is left within n open blocks is as in a fine body
 pub record Part (ks : List ℕ) (n : ℕ) (c : Code) : Type 0 where
   pub calling : Calling ks c
-  pub few-open : depth c + n ≤ most-open
+  pub few_open : depth c + n ≤ most_open
 
 -- the same of a second alternative
 abbrev pub SecondPart : List ℕ → ℕ → Option Alternative → Type 0
@@ -88,13 +88,13 @@ pub record Left (ks s t : List ℕ) (at top : ℕ) (ls : List Level) : Type 0 wh
   pub levels : Levels ks ls
 
 -- how many NEW and MIRROR, and how many FORK, stand in a second alternative
-abbrev pub secondLocals : Option Alternative → ℕ
-secondLocals none = 0
-secondLocals (some (other b κ)) = locals b
+abbrev pub second_locals : Option Alternative → ℕ
+second_locals none = 0
+second_locals (some (other b κ)) = locals b
 
-abbrev pub secondForks : Option Alternative → ℕ
-secondForks none = 0
-secondForks (some (other b κ)) = forks b
+abbrev pub second_forks : Option Alternative → ℕ
+second_forks none = 0
+second_forks (some (other b κ)) = forks b
 
 -- The code c, which m locals and j FORK of a routine with k parameters stand before, has its names in a scope. They
 -- are at most n, and so are their roots, which rs has and the place tells.
@@ -103,8 +103,8 @@ pub record InScope (k n : ℕ) (rs : List ℕ) (m j : ℕ) (π : Place) (c : Cod
   pub scope : List ℕ
   pub uses : Uses scope c
   pub low : (x : ℕ) → In x scope → x ≤ n
-  pub roots : (x : ℕ) → In x scope → rootOf rs x ≡ π.roots x
-  pub low-roots : (x : ℕ) → In x scope → π.roots x ≤ n
+  pub roots : (x : ℕ) → In x scope → root_of rs x ≡ π.roots x
+  pub low_roots : (x : ℕ) → In x scope → π.roots x ≤ n
 
 -- the same of a second alternative
 abbrev pub SecondInScope : ℕ → ℕ → List ℕ → ℕ → ℕ → Option Alternative → Type 0
@@ -113,16 +113,16 @@ SecondInScope k n rs m j (some (other b κ)) = InScope k n rs m j κ b
 
 -- the same of each code that is left
 abbrev pub Scopes : ℕ → ℕ → List ℕ → ℕ → ℕ → List Level → Type 0
-Scopes k n rs m j [] = (k + m < most-names) × (j ≤ most-forks)
+Scopes k n rs m j [] = (k + m < most_names) × (j ≤ most_forks)
 Scopes k n rs m j (level c u π ∷ ls) =
     InScope k n rs m j π c × SecondInScope k n rs (m + locals c) (j + forks c) u
-    × Scopes k n rs (m + locals c + secondLocals u) (j + forks c + secondForks u) ls
+    × Scopes k n rs (m + locals c + second_locals u) (j + forks c + second_forks u) ls
 
 -- the numbers show the place: its holder, its thread, and its nest as a mask
 pub record Shows (h t m : ℕ) (π : Place) : Type 0 where
-  pub holder : π.holder ≡ heldBy h
+  pub holder : π.holder ≡ held_by h
   pub thread : π.thread ≡ label_of t
-  pub low : t ≤ most-forks
+  pub low : t ≤ most_forks
   pub nest : Bits m (λ x. In x π.nest)
 
 -- entry n of the holders, of the threads and of the nests shows the place
@@ -159,8 +159,8 @@ AtItem H (level c u π ∷ ls) = H c π
 abbrev pub InParts : (H F : Code → Place → Type 0) → Code → Place → Type 0
 InParts H F end π = ⊥
 InParts H F (new x c) π = F c (naming x x π)
-InParts H F (lock x c d) π = H (lock x c d) π ⊎ (F c (underLock (π.roots x) π) ⊎ F d π)
-InParts H F (fork i c d) π = F c (underFork i π) ⊎ F d π
+InParts H F (lock x c d) π = H (lock x c d) π ⊎ (F c (under_lock (π.roots x) π) ⊎ F d π)
+InParts H F (fork i c d) π = F c (under_fork i π) ⊎ F d π
 InParts H F (choice a b c) π = F a π ⊎ (F b π ⊎ F c π)
 InParts H F (call r xs c) π = H (call r xs c) π ⊎ F c π
 InParts H F (mirror x y c) π = F c (naming x (π.roots y) π)

@@ -7,36 +7,36 @@ use Prim.Native.Nat.{ℕ, zero, suc, ◌+◌, ◌-◌, ◌*◌, ◌≤◌, ◌<�
 use native.Mathlib.Omega.{arith}
 use lib.ListN.{length, get_or, take, drop}
 use lib.Seq.{drop-drop, take_at}
-use Rattle.table.specs.Constants.{END, LOCK, CALL, code, most-forks}
+use Rattle.table.specs.Constants.{END, LOCK, CALL, code, most_forks}
 use Rattle.table.specs.Program.{Code, lock, call}
 use Rattle.table.specs.WellFormed.{In}
-use Rattle.table.specs.laws.Lists.{In-map}
+use Rattle.table.specs.Laws.Lists.{In-map}
 use Rattle.table.specs.Encoding.{encode}
 use Rattle.rules.specs.Label.{Label}
 use Rattle.rules.specs.Number.{label_of}
-use Rattle.rules.specs.Model.{Kept, Place, atHead}
+use Rattle.rules.specs.Model.{Kept, Place, at_head}
 use Rattle.rules.specs.Derived.{Pairs, RecordedFrom}
 use Rattle.grid.specs.Rows.{Has}
 use Rattle.grid.specs.Grid.{Pair, Small, AllKept}
-use Rattle.table.specs.laws.Fine.{Fine, IsBody}
-use Rattle.pairs.specs.Walks.{Walk, Ready, heldBy, byte_of, argOf, holderOf, threadOf, nestOf, rootOf, Selves}
-use Rattle.pairs.specs.Walks.{holderUnder, holderInside, startWalk, movedWalk, nextWalk, LockReady}
-use Rattle.pairs.specs.Gains.{Gains, HoldersGive, CallGives, Low, LowAt, names_at, rootsAt, CallReady}
+use Rattle.table.specs.Laws.Fine.{Fine, IsBody}
+use Rattle.pairs.specs.Walks.{Walk, Ready, held_by, byte_of, arg_of, holder_of, thread_of, nest_of, root_of, Selves}
+use Rattle.pairs.specs.Walks.{holder_under, holder_inside, start_walk, moved_walk, next_walk, LockReady}
+use Rattle.pairs.specs.Gains.{Gains, HoldersGive, CallGives, Low, LowAt, names_at, roots_at, CallReady}
 use Rattle.rows.specs.Bytes.{RowBits}
-use Rattle.pairs.proofs.Pending.{Alternative, Level, level, bytes, secondBytes, closer, past, Left, InLeft}
+use Rattle.pairs.proofs.Pending.{Alternative, Level, level, bytes, second_bytes, closer, past, Left, InLeft}
 use Rattle.pairs.proofs.Pending.{AtItem, PairIn, PairAt, LockGives, Shows}
-use Rattle.pairs.specs.Contracts.{Records}
-use Rattle.pairs.proofs.Steps.{Going, begins, place-there, few-levels, room, step, next_place, shrinks}
-use Rattle.pairs.proofs.Steps.{none_left, at-kind, quiet, byte_at, by_byte}
-use Rattle.pairs.proofs.Tracking.{Tracked, top-entry, name-low, root-low, track, ready, tracks}
-use Rattle.pairs.proofs.Gaining.{gains-none, gains-map, lock-gains}
-use Rattle.pairs.proofs.Parts.{left-past, past-left, pair_parts, parts-pair, pair-at}
+use Rattle.pairs.specs.Parts.{Records}
+use Rattle.pairs.proofs.Steps.{Going, begins, place_there, few_levels, room, step, next_place, shrinks}
+use Rattle.pairs.proofs.Steps.{none_left, at_kind, quiet, byte_at, by_byte}
+use Rattle.pairs.proofs.Tracking.{Tracked, top_entry, name_low, root_low, track, ready, tracks}
+use Rattle.pairs.proofs.Gaining.{gains_none, gains_map, lock_gains}
+use Rattle.pairs.proofs.Parts.{left_past, past_left, pair_parts, parts_pair, pair_at}
 
 -- each entry of a list of names below 16 is below 16
-low-names : (xs : List ℕ) → ((x : ℕ) → In x xs → x < 16) → Low xs
-low-names [] h i = omega arith
-low-names (x ∷ xs) h zero = h x (inl refl)
-low-names (x ∷ xs) h (suc i) = low-names xs (λ y p. h y (inr p)) i
+low_names : (xs : List ℕ) → ((x : ℕ) → In x xs → x < 16) → Low xs
+low_names [] h i = omega arith
+low_names (x ∷ xs) h zero = h x (inl refl)
+low_names (x ∷ xs) h (suc i) = low_names xs (λ y p. h y (inr p)) i
 
 -- the walk over the body c, of a routine with k parameters and followed by t, is at its place, and the grid has the
 -- pairs of f and those recorded before
@@ -46,10 +46,10 @@ pub record Recorded (ks : List ℕ) (k : ℕ) (s rows : List ℕ) (c : Code) (t 
   pub left : Left ks s t w.at w.top levels
   pub tracked : Tracked k w levels
   pub met : (a b : ℕ) (l : Label) → Pair g a b l
-      → Pair f a b l ⊎ (RecordedFrom (RowBits rows) c atHead a b l × Kept a b l)
+      → Pair f a b l ⊎ (RecordedFrom (RowBits rows) c at_head a b l × Kept a b l)
   pub pending : (a b : ℕ) (l : Label) → InLeft (PairIn (RowBits rows) a b l) levels
-      → RecordedFrom (RowBits rows) c atHead a b l
-  pub all : (a b : ℕ) (l : Label) → RecordedFrom (RowBits rows) c atHead a b l → Kept a b l
+      → RecordedFrom (RowBits rows) c at_head a b l
+  pub all : (a b : ℕ) (l : Label) → RecordedFrom (RowBits rows) c at_head a b l → Kept a b l
       → Pair g a b l ⊎ InLeft (PairIn (RowBits rows) a b l) levels
 
 -- the walk over each body that the bytes can be, from the grid f on
@@ -60,14 +60,14 @@ pub record Recording (ks : List ℕ) (k : ℕ) (s : List ℕ) (at : ℕ) (rows :
   pub old : (a b : ℕ) (l : Label) → Pair f a b l → Pair g a b l
   pub each : (c : Code) (t : List ℕ) → Fine ks k c → drop at s ≡ encode END c ++ t → Recorded ks k s rows c t f w g
 
-pub record-start : (ks : List ℕ) (k : ℕ) (s : List ℕ) (at : ℕ) (rows : List ℕ) (f : List (List ℕ)) (rs : List ℕ)
-    → Small f → Selves rs → Recording ks k s at rows f (startWalk at k rs) f
-record-start ks k s at rows f rs small selves = record {
+pub record_start : (ks : List ℕ) (k : ℕ) (s : List ℕ) (at : ℕ) (rows : List ℕ) (f : List (List ℕ)) (rs : List ℕ)
+    → Small f → Selves rs → Recording ks k s at rows f (start_walk at k rs) f
+record_start ks k s at rows f rs small selves = record {
   small = small;
   kept = λ z. z;
   old = λ a b l p. p;
   each = λ c t i e. record {
-    levels = level c none atHead ∷ [];
+    levels = level c none at_head ∷ [];
     left = begins ks s t at k c i e;
     tracked = tracks ks at k rs c i selves;
     met = λ a b l p. inl p;
@@ -79,21 +79,21 @@ record-start ks k s at rows f rs small selves = record {
 -- the pair from the holder outside a LOCK at the place to the one inside
 abbrev pub LockPairs : List ℕ → Walk → ℕ → ℕ → Label → Type 0
 LockPairs s w =
-    HoldersGive (heldBy (holderOf w)) (heldBy (holderUnder (nestOf w) (holderOf w) (rootOf w.roots (argOf s w))))
-    (label_of (threadOf w))
+    HoldersGive (held_by (holder_of w)) (held_by (holder_under (nest_of w) (holder_of w) (root_of w.roots (arg_of s w))))
+    (label_of (thread_of w))
 
 -- what a CALL at the place records
 abbrev pub CallPairs : List ℕ → List ℕ → List ℕ → Walk → ℕ → ℕ → Label → Type 0
 CallPairs ks s rows w =
-    CallGives (RowBits rows) (argOf s w) (rootsAt w.roots s (w.at + 2) (get_or ks (argOf s w) 0))
-    (label_of (threadOf w)) (heldBy (holderOf w))
+    CallGives (RowBits rows) (arg_of s w) (roots_at w.roots s (w.at + 2) (get_or ks (arg_of s w) 0))
+    (label_of (thread_of w)) (held_by (holder_of w))
 
 -- the same gains, with equals for equals
-lock-same : {g r : List (List ℕ)} (h t m : ℕ) (π : Place) (u v : ℕ) → Shows h t m π → u ≡ v
-    → Gains g (LockGives (Has m) u (label_of t) (heldBy h)) r
+lock_same : {g r : List (List ℕ)} (h t m : ℕ) (π : Place) (u v : ℕ) → Shows h t m π → u ≡ v
+    → Gains g (LockGives (Has m) u (label_of t) (held_by h)) r
     → Gains g (LockGives (λ z. In z π.nest) v π.thread π.holder) r
-lock-same h t m π u v k e p =
-    gains-map
+lock_same h t m π u v k e p =
+    gains_map
     (λ a b l z. ((λ i. z.0 (k.nest.from u (rw e i))), k.holder ∙ z.1, z.2 ∙ e, z.3 ∙ sym k.thread))
     (λ a b l z. ((λ i. z.0 (rw e at (k.nest.to u i))), sym k.holder ∙ z.1, z.2 ∙ sym e, z.3 ∙ k.thread))
     p
@@ -103,134 +103,134 @@ call_same : {g r : List (List ℕ)} (R : Pairs) (n m : ℕ) (xs ys : List ℕ) (
 call_same {g} {r} R n m xs ys θ ϑ h i e f c d p = rw (← e, ← f, c, d) p
 
 -- the names of a call
-names-are : (s t xs z y : List ℕ) (at r : ℕ) → drop at s ≡ code CALL ∷ r ∷ (((xs ++ z) ++ y) ++ t)
+names_are : (s t xs z y : List ℕ) (at r : ℕ) → drop at s ≡ code CALL ∷ r ∷ (((xs ++ z) ++ y) ++ t)
     → names_at s (at + 2) (length xs) ≡ xs
-names-are s t xs z y at r e =
+names_are s t xs z y at r e =
     ap (take (length xs)) (sym (drop-drop 2 at s) ∙
     (ap (drop 2) e ∙ (ap (λ (l : List ℕ). l ++ t) (append_assoc xs z y) ∙ append_assoc xs (z ++ y) t)))
     ∙ take_at xs ((z ++ y) ++ t) (length xs) refl
 
 -- the images of a list by two functions that agree on it
-same-images : (f g : ℕ → ℕ) (xs : List ℕ) → ((x : ℕ) → In x xs → f x ≡ g x) → map f xs ≡ map g xs
-same-images f g [] e = refl
-same-images f g (x ∷ xs) e =
+same_images : (f g : ℕ → ℕ) (xs : List ℕ) → ((x : ℕ) → In x xs → f x ≡ g x) → map f xs ≡ map g xs
+same_images f g [] e = refl
+same_images f g (x ∷ xs) e =
     let p : f x ≡ g x = e x (inl refl) in
-    let q : map f xs ≡ map g xs = same-images f g xs (λ y i. e y (inr i)) in
+    let q : map f xs ≡ map g xs = same_images f g xs (λ y i. e y (inr i)) in
     cc
 
 -- the same of the images of a list
-low-images : (f : ℕ → ℕ) (xs : List ℕ) → ((x : ℕ) → In x xs → f x < 16) → Low (map f xs)
-low-images f xs h = low-names (map f xs) (λ y i. let r = In-map f y xs i in rw r.2 (h r.0 r.1))
+low_images : (f : ℕ → ℕ) (xs : List ℕ) → ((x : ℕ) → In x xs → f x < 16) → Low (map f xs)
+low_images f xs h = low_names (map f xs) (λ y i. let r = In-map f y xs i in rw r.2 (h r.0 r.1))
 
 module _ (ks s t : List ℕ) (k : ℕ) (w : Walk) where
-  thread-low : (ls : List Level) → Left ks s t w.at w.top ls → Tracked k w ls → threadOf w ≤ most-forks
-  thread-low [] p o = absurd (let z = p.count in omega arith)
-  thread-low (level c u π ∷ ls) p o = (top-entry ks s t k w c u π ls p o).low
+  thread_low : (ls : List Level) → Left ks s t w.at w.top ls → Tracked k w ls → thread_of w ≤ most_forks
+  thread_low [] p o = absurd (let z = p.count in omega arith)
+  thread_low (level c u π ∷ ls) p o = (top_entry ks s t k w c u π ls p o).low
 
-  lock-ready : (ls : List Level) → Left ks s t w.at w.top ls → Tracked k w ls
+  lock_ready : (ls : List Level) → Left ks s t w.at w.top ls → Tracked k w ls
       → LockReady w.roots s w.at (byte_of s w)
-  lock-ready ls p o e =
+  lock_ready ls p o e =
       let r = ready ks s t k w ls p o (λ f. absurd (omega arith)) in ((r.room LOCK e).0, r.names LOCK e)
 
-  lock-item : (R : Pairs) (g r : List (List ℕ)) (ls : List Level) → Left ks s t w.at w.top ls → Tracked k w ls
+  lock_item_lem : (R : Pairs) (g r : List (List ℕ)) (ls : List Level) → Left ks s t w.at w.top ls → Tracked k w ls
       → byte_of s w ≡ code LOCK → Gains g (LockPairs s w) r → Gains g (λ a b l. AtItem (PairAt R a b l) ls) r
-  lock-item R g r ls p o e q =
-      let v = at-kind ks s t w.at w.top LOCK ls p e in
+  lock_item_lem R g r ls p o e q =
+      let v = at_kind ks s t w.at w.top LOCK ls p e in
       let p' : Left ks s t w.at w.top (level (lock v.0 v.1 v.2) v.3 v.4 ∷ v.5) = rw v.6 at p in
       let o' : Tracked k w (level (lock v.0 v.1 v.2) v.3 v.4 ∷ v.5) = rw v.6 at o in
-      let x : argOf s w ≡ v.0 = byte_at s w.at 1 _ p'.content in
-      let y = top-entry ks s t k w _ _ _ _ p' o' in
+      let x : arg_of s w ≡ v.0 = byte_at s w.at 1 _ p'.content in
+      let y = top_entry ks s t k w _ _ _ _ p' o' in
       let n = o'.scopes.0 in
-      let z : rootOf w.roots (argOf s w) < 16 = rw x (root-low k w _ _ _ _ o' v.0 n.uses.0) in
-      rw v.6 (lock-same (holderOf w) (threadOf w) (nestOf w) v.4 (rootOf w.roots (argOf s w))
-      (v.4.roots v.0) y (ap (rootOf w.roots) x ∙ n.roots v.0 n.uses.0)
-      (lock-gains (holderOf w) (rootOf w.roots (argOf s w)) (threadOf w) (nestOf w) z y.low q))
+      let z : root_of w.roots (arg_of s w) < 16 = rw x (root_low k w _ _ _ _ o' v.0 n.uses.0) in
+      rw v.6 (lock_same (holder_of w) (thread_of w) (nest_of w) v.4 (root_of w.roots (arg_of s w))
+      (v.4.roots v.0) y (ap (root_of w.roots) x ∙ n.roots v.0 n.uses.0)
+      (lock_gains (holder_of w) (root_of w.roots (arg_of s w)) (thread_of w) (nest_of w) z y.low q))
 
   module _ (r : ℕ) (xs : List ℕ) (c : Code) (u : Option Alternative) (π : Place) (ls : List Level)
       (p : Left ks s t w.at w.top (level (call r xs c) u π ∷ ls)) where
-    names-at-call : names_at s (w.at + 2) (get_or ks (argOf s w) 0) ≡ xs
-    names-at-call =
-        let x : argOf s w ≡ r = byte_at s w.at 1 _ p.content in
-        let k : get_or ks (argOf s w) 0 ≡ length xs = rw x (sym p.levels.0.calling.1) in
-        rw k (names-are s t xs (encode (closer u) c) (secondBytes u ++ bytes ls) w.at r p.content)
+    names_at_call : names_at s (w.at + 2) (get_or ks (arg_of s w) 0) ≡ xs
+    names_at_call =
+        let x : arg_of s w ≡ r = byte_at s w.at 1 _ p.content in
+        let k : get_or ks (arg_of s w) 0 ≡ length xs = rw x (sym p.levels.0.calling.1) in
+        rw k (names_are s t xs (encode (closer u) c) (second_bytes u ++ bytes ls) w.at r p.content)
 
     module _ (o : Tracked k w (level (call r xs c) u π ∷ ls)) where
-      roots-at-call : rootsAt w.roots s (w.at + 2) (get_or ks (argOf s w) 0) ≡ map π.roots xs
-      roots-at-call =
+      roots_at_call : roots_at w.roots s (w.at + 2) (get_or ks (arg_of s w) 0) ≡ map π.roots xs
+      roots_at_call =
           let n = o.scopes.0 in
-          ap (map (rootOf w.roots)) names-at-call
-          ∙ same-images (rootOf w.roots) π.roots xs (λ x i. n.roots x (n.uses.0 x i))
+          ap (map (root_of w.roots)) names_at_call
+          ∙ same_images (root_of w.roots) π.roots xs (λ x i. n.roots x (n.uses.0 x i))
 
-      low-at-call : LowAt w.roots s (w.at + 2) (get_or ks (argOf s w) 0)
-      low-at-call = rw names-at-call (
-        low-names xs (λ x i. name-low k w _ _ _ _ o x (o.scopes.0.uses.0 x i)),
-        low-images (rootOf w.roots) xs (λ x i. root-low k w _ _ _ _ o x (o.scopes.0.uses.0 x i)),
+      low_at_call : LowAt w.roots s (w.at + 2) (get_or ks (arg_of s w) 0)
+      low_at_call = rw names_at_call (
+        low_names xs (λ x i. name_low k w _ _ _ _ o x (o.scopes.0.uses.0 x i)),
+        low_images (root_of w.roots) xs (λ x i. root_low k w _ _ _ _ o x (o.scopes.0.uses.0 x i)),
       )
 
-  call-ready : (rows : List ℕ) (ls : List Level) → Left ks s t w.at w.top ls → Tracked k w ls
-      → byte_of s w ≡ code CALL → 65 * length ks ≤ length rows → CallReady w.roots ks s rows w.at (threadOf w)
-  call-ready rows ls p o e long =
-      let v = at-kind ks s t w.at w.top CALL ls p e in
+  call_ready : (rows : List ℕ) (ls : List Level) → Left ks s t w.at w.top ls → Tracked k w ls
+      → byte_of s w ≡ code CALL → 65 * length ks ≤ length rows → CallReady w.roots ks s rows w.at (thread_of w)
+  call_ready rows ls p o e long =
+      let v = at_kind ks s t w.at w.top CALL ls p e in
       let p' : Left ks s t w.at w.top (level (call v.0 v.1 v.2) v.3 v.4 ∷ v.5) = rw v.6 at p in
       let o' : Tracked k w (level (call v.0 v.1 v.2) v.3 v.4 ∷ v.5) = rw v.6 at o in
-      let x : argOf s w ≡ v.0 = byte_at s w.at 1 _ p'.content in
+      let x : arg_of s w ≡ v.0 = byte_at s w.at 1 _ p'.content in
       let n = p'.levels.0.calling in
-      let m : get_or ks (argOf s w) 0 ≡ length v.1 = rw x (sym n.1) in
+      let m : get_or ks (arg_of s w) 0 ≡ length v.1 = rw x (sym n.1) in
       let d = room ks s t w.at w.top ls p (λ f. absurd (omega arith)) CALL e in
       record {
         there = d.2;
         routine = d.1;
         params = rw m n.2;
-        names = low-at-call _ _ _ _ _ _ p' o';
-        thread = (top-entry ks s t k w _ _ _ _ p' o').low;
+        names = low_at_call _ _ _ _ _ _ p' o';
+        thread = (top_entry ks s t k w _ _ _ _ p' o').low;
         long = long;
       }
 
-  call-item : (rows : List ℕ) (g r : List (List ℕ)) (ls : List Level) → Left ks s t w.at w.top ls → Tracked k w ls
+  call_item_lem : (rows : List ℕ) (g r : List (List ℕ)) (ls : List Level) → Left ks s t w.at w.top ls → Tracked k w ls
       → byte_of s w ≡ code CALL → Gains g (CallPairs ks s rows w) r
       → Gains g (λ a b l. AtItem (PairAt (RowBits rows) a b l) ls) r
-  call-item rows g r ls p o e q =
-      let v = at-kind ks s t w.at w.top CALL ls p e in
+  call_item_lem rows g r ls p o e q =
+      let v = at_kind ks s t w.at w.top CALL ls p e in
       let p' : Left ks s t w.at w.top (level (call v.0 v.1 v.2) v.3 v.4 ∷ v.5) = rw v.6 at p in
       let o' : Tracked k w (level (call v.0 v.1 v.2) v.3 v.4 ∷ v.5) = rw v.6 at o in
-      let x : argOf s w ≡ v.0 = byte_at s w.at 1 _ p'.content in
-      let y = top-entry ks s t k w _ _ _ _ p' o' in
+      let x : arg_of s w ≡ v.0 = byte_at s w.at 1 _ p'.content in
+      let y = top_entry ks s t k w _ _ _ _ p' o' in
       rw v.6
-      (call_same (RowBits rows) (argOf s w) v.0 _ (map v.4.roots v.1) (label_of (threadOf w)) v.4.thread
-      (heldBy (holderOf w)) v.4.holder x (roots-at-call _ _ _ _ _ _ p' o') y.thread y.holder q)
+      (call_same (RowBits rows) (arg_of s w) v.0 _ (map v.4.roots v.1) (label_of (thread_of w)) v.4.thread
+      (held_by (holder_of w)) v.4.holder x (roots_at_call _ _ _ _ _ _ p' o') y.thread y.holder q)
 
 module _ {ks : List ℕ} {k : ℕ} {s : List ℕ} {at : ℕ} {rows : List ℕ} {f : List (List ℕ)} {w : Walk} {g : List (List ℕ)}
     (p : Recording ks k s at rows f w g) (body : IsBody ks k s at) where
   abbrev here : Recorded ks k s rows body.0 body.1 f w g
   here = p.each body.0 body.1 body.2 body.3
 
-  pub record-there : w.at < length s
-  record-there = place-there ks s body.1 w.at w.top here.levels here.left
+  pub record_there : w.at < length s
+  record_there = place_there ks s body.1 w.at w.top here.levels here.left
 
-  pub record-entries : w.top ≤ 16
-  record-entries = few-levels ks s body.1 w.at w.top here.levels here.left
+  pub record_entries : w.top ≤ 16
+  record_entries = few_levels ks s body.1 w.at w.top here.levels here.left
 
-  pub record-ready : Going s w.at w.top → Ready ks s w
-  record-ready h = ready ks s body.1 k w here.levels here.left here.tracked h
+  pub record_ready : Going s w.at w.top → Ready ks s w
+  record_ready h = ready ks s body.1 k w here.levels here.left here.tracked h
 
-  pub record-less : Going s w.at w.top → length s - (nextWalk ks s w).at < length s - w.at
-  record-less h = rw (next_place ks s w).0 (shrinks ks s body.1 w.at w.top here.levels here.left h)
+  pub record_less : Going s w.at w.top → length s - (next_walk ks s w).at < length s - w.at
+  record_less h = rw (next_place ks s w).0 (shrinks ks s body.1 w.at w.top here.levels here.left h)
 
-  pub record-lock-ready : LockReady w.roots s w.at (byte_of s w)
-  record-lock-ready = lock-ready ks s body.1 k w here.levels here.left here.tracked
+  pub record_lock_ready : LockReady w.roots s w.at (byte_of s w)
+  record_lock_ready = lock_ready ks s body.1 k w here.levels here.left here.tracked
 
-  pub record-thread : threadOf w ≤ most-forks
-  record-thread = thread-low ks s body.1 k w here.levels here.left here.tracked
+  pub record_thread : thread_of w ≤ most_forks
+  record_thread = thread_low ks s body.1 k w here.levels here.left here.tracked
 
-  pub record-call-ready : byte_of s w ≡ code CALL → 65 * length ks ≤ length rows
-      → CallReady w.roots ks s rows w.at (threadOf w)
-  record-call-ready e l = call-ready ks s body.1 k w rows here.levels here.left here.tracked e l
+  pub record_call_ready : byte_of s w ≡ code CALL → 65 * length ks ≤ length rows
+      → CallReady w.roots ks s rows w.at (thread_of w)
+  record_call_ready e l = call_ready ks s body.1 k w rows here.levels here.left here.tracked e l
 
-  record-next : (r : List (List ℕ)) → Going s w.at w.top
+  record_next : (r : List (List ℕ)) → Going s w.at w.top
       → ((t : List ℕ) (ls : List Level) → Left ks s t w.at w.top ls → Tracked k w ls
       → Gains g (λ a b l. AtItem (PairAt (RowBits rows) a b l) ls) r)
-      → Recording ks k s at rows f (nextWalk ks s w) r
-  record-next r h gains =
+      → Recording ks k s at rows f (next_walk ks s w) r
+  record_next r h gains =
       let q₀ = gains body.1 here.levels here.left here.tracked in
       record {
         small = q₀.small;
@@ -245,45 +245,45 @@ module _ {ks : List ℕ} {k : ℕ} {s : List ℕ} {at : ℕ} {rows : List ℕ} {
                   (step ks s t w.at w.top z.levels z.left h);
               tracked = track ks s t k w z.levels z.left h z.tracked;
               met = λ a b l y. ⊎_elim (z.met a b l)
-                  (λ x. inr (z.pending a b l (pair-at (RowBits rows) a b l z.levels x.0), x.1))
+                  (λ x. inr (z.pending a b l (pair_at (RowBits rows) a b l z.levels x.0), x.1))
                   (q.only a b l y);
-              pending = λ a b l y. z.pending a b l (past-left _ _ (parts-pair (RowBits rows) a b l) z.levels y);
+              pending = λ a b l y. z.pending a b l (past_left _ _ (parts_pair (RowBits rows) a b l) z.levels y);
               all = λ a b l y k.
                   ⊎_elim
                   (λ x. inl (q.old a b l x))
                   (λ x. ⊎_elim (λ v. inl (q.new a b l v k)) (λ v. inr v)
-                  (left-past _ _ (pair_parts (RowBits rows) a b l) z.levels x))
+                  (left_past _ _ (pair_parts (RowBits rows) a b l) z.levels x))
                   (z.all a b l y k);
             };
       }
 
-  pub record-lock : (r : List (List ℕ)) → Going s w.at w.top → byte_of s w ≡ code LOCK
-      → {inside : ℕ} → inside ≡ holderInside w.roots s w.at (byte_of s w) (holderOf w) (nestOf w)
-      → Gains g (HoldersGive (heldBy (holderOf w)) (heldBy inside) (label_of (threadOf w))) r
-      → Recording ks k s at rows f (nextWalk ks s w) r
-  record-lock r h e i q =
-      record-next r h (λ t ls y o. lock-item ks s t k w (RowBits rows) g r ls y o e (rw (i, e) at q))
+  pub record_lock : (r : List (List ℕ)) → Going s w.at w.top → byte_of s w ≡ code LOCK
+      → {inside : ℕ} → inside ≡ holder_inside w.roots s w.at (byte_of s w) (holder_of w) (nest_of w)
+      → Gains g (HoldersGive (held_by (holder_of w)) (held_by inside) (label_of (thread_of w))) r
+      → Recording ks k s at rows f (next_walk ks s w) r
+  record_lock r h e i q =
+      record_next r h (λ t ls y o. lock_item_lem ks s t k w (RowBits rows) g r ls y o e (rw (i, e) at q))
 
-  pub record-call : (r : List (List ℕ)) → Going s w.at w.top → byte_of s w ≡ code CALL
+  pub record_call : (r : List (List ℕ)) → Going s w.at w.top → byte_of s w ≡ code CALL
       → Gains g (CallPairs ks s rows w) r
-      → Recording ks k s at rows f (nextWalk ks s w) r
-  record-call r h e q = record-next r h (λ t ls y o. call-item ks s t k w rows g r ls y o e q)
+      → Recording ks k s at rows f (next_walk ks s w) r
+  record_call r h e q = record_next r h (λ t ls y o. call_item_lem ks s t k w rows g r ls y o e q)
 
-  pub record-other : Going s w.at w.top → (byte_of s w ≡ code LOCK → ⊥) → (byte_of s w ≡ code CALL → ⊥)
-      → Recording ks k s at rows f (nextWalk ks s w) g
-  record-other h n m =
-      record-next g h
-      (λ t ls y o. gains-none g _ p.small (λ a b l. quiet ks s t w.at w.top (RowBits rows) a b l ls y n m))
+  pub record_other : Going s w.at w.top → (byte_of s w ≡ code LOCK → ⊥) → (byte_of s w ≡ code CALL → ⊥)
+      → Recording ks k s at rows f (next_walk ks s w) g
+  record_other h n m =
+      record_next g h
+      (λ t ls y o. gains_none g _ p.small (λ a b l. quiet ks s t w.at w.top (RowBits rows) a b l ls y n m))
 
   -- past an END that closes a block
-  pub record-closed : byte_of s w ≡ code END → 1 ≤ w.top
-      → Recording ks k s at rows f (movedWalk w (w.at + 1) (w.top - 1)) g
-  record-closed e l =
+  pub record_closed : byte_of s w ≡ code END → 1 ≤ w.top
+      → Recording ks k s at rows f (moved_walk w (w.at + 1) (w.top - 1)) g
+  record_closed e l =
       subst (λ (v : Walk). Recording ks k s at rows f v g) (by_byte ks s w 0 e)
-      (record-other (λ h. l) (λ h. absurd (omega arith)) (λ h. absurd (omega arith)))
+      (record_other (λ h. l) (λ h. absurd (omega arith)) (λ h. absurd (omega arith)))
 
-  pub record-end : byte_of s w ≡ code END → w.top ≡ 0 → Records ks k s at rows f g
-  record-end e n c t i h =
+  pub record_end : byte_of s w ≡ code END → w.top ≡ 0 → Records ks k s at rows f g
+  record_end e n c t i h =
       let z = p.each c t i h in
       record {
         small = p.small;

@@ -15,16 +15,16 @@ use Rattle.table.specs.Constants.{Op, END, NEW, LOCK, FORK, CHOICE, OTHER, CALL,
 use Rattle.table.specs.Program.{Code, end, new, lock, fork, choice, call, mirror}
 use Rattle.table.specs.Encoding.{encode}
 use Rattle.rules.specs.Label.{Label}
-use Rattle.rules.specs.Model.{Place, atHead}
+use Rattle.rules.specs.Model.{Place, at_head}
 use Rattle.rules.specs.Derived.{Pairs}
-use Rattle.table.specs.laws.Fine.{Fine}
-use Rattle.pairs.specs.Walks.{Walk, byte_of, RoomAt, Ready, passed_by, walkBy, nextWalk, pastBy, pastItem, topBy}
+use Rattle.table.specs.Laws.Fine.{Fine}
+use Rattle.pairs.specs.Walks.{Walk, byte_of, RoomAt, Ready, passed_by, walk_by, next_walk, past_by, past_item, top_by}
 use Rattle.pairs.specs.Walks.{Passable, LevelReady}
-use Rattle.pairs.proofs.Pending.{Alternative, other, Level, level, bytes, itemBytes, past, Levels, Left}
+use Rattle.pairs.proofs.Pending.{Alternative, other, Level, level, bytes, item_bytes, past, Levels, Left}
 use Rattle.pairs.proofs.Pending.{InLeft, AtItem, CallAt, PairAt}
 
 -- the bytes left are those of the item and those past it
-pub bytes_past : (ls : List Level) → bytes ls ≡ itemBytes ls ++ bytes (past ls)
+pub bytes_past : (ls : List Level) → bytes ls ≡ item_bytes ls ++ bytes (past ls)
 bytes_past [] = refl
 bytes_past (level end none π ∷ ls) = refl
 bytes_past (level end (some (other b κ)) π ∷ ls) = refl
@@ -35,55 +35,55 @@ bytes_past (level (choice a b c) u π ∷ ls) = simp append_assoc
 bytes_past (level (call r xs c) u π ∷ ls) = simp append_assoc
 bytes_past (level (mirror x y c) u π ∷ ls) = refl
 
-bytes-length : (ls : List Level) → length (bytes ls) ≡ length (itemBytes ls) + length (bytes (past ls))
-bytes-length ls = ap length (bytes_past ls) ∙ length-append (itemBytes ls) (bytes (past ls))
+bytes_length : (ls : List Level) → length (bytes ls) ≡ length (item_bytes ls) + length (bytes (past ls))
+bytes_length ls = ap length (bytes_past ls) ∙ length-append (item_bytes ls) (bytes (past ls))
 
 -- what is left past the item
 pub drop_past : (s t : List ℕ) (at : ℕ) (ls : List Level) → drop at s ≡ bytes ls ++ t
-    → drop (at + length (itemBytes ls)) s ≡ bytes (past ls) ++ t
+    → drop (at + length (item_bytes ls)) s ≡ bytes (past ls) ++ t
 drop_past s t at ls e =
-    sym (drop-drop (length (itemBytes ls)) at s)
-    ∙ ap (λ (l : List ℕ). drop (length (itemBytes ls)) l)
-    (e ∙ ap (λ (l : List ℕ). l ++ t) (bytes_past ls) ∙ append_assoc (itemBytes ls) (bytes (past ls)) t)
-    ∙ drop_at (itemBytes ls) (bytes (past ls) ++ t) (length (itemBytes ls)) refl
+    sym (drop-drop (length (item_bytes ls)) at s)
+    ∙ ap (λ (l : List ℕ). drop (length (item_bytes ls)) l)
+    (e ∙ ap (λ (l : List ℕ). l ++ t) (bytes_past ls) ∙ append_assoc (item_bytes ls) (bytes (past ls)) t)
+    ∙ drop_at (item_bytes ls) (bytes (past ls) ++ t) (length (item_bytes ls)) refl
 
 -- a byte that is left
 pub byte_at : (s : List ℕ) (at i : ℕ) (l : List ℕ) → drop at s ≡ l → get_or s (at + i) 0 ≡ get_or l i 0
 byte_at s at i l e = sym (get_or-drop at s i 0) ∙ ap (λ (v : List ℕ). get_or v i 0) e
 
 -- a kind is known by its code
-op-of-code : (k : Op) → op_of (code k) ≡ some k
-op-of-code END = refl
-op-of-code NEW = refl
-op-of-code LOCK = refl
-op-of-code FORK = refl
-op-of-code CHOICE = refl
-op-of-code OTHER = refl
-op-of-code CALL = refl
-op-of-code MIRROR = refl
+op_of_code : (k : Op) → op_of (code k) ≡ some k
+op_of_code END = refl
+op_of_code NEW = refl
+op_of_code LOCK = refl
+op_of_code FORK = refl
+op_of_code CHOICE = refl
+op_of_code OTHER = refl
+op_of_code CALL = refl
+op_of_code MIRROR = refl
 
 pub code_same : (j k : Op) → code j ≡ code k → j ≡ k
-code_same j k e = let f : some j ≡ some k = sym (op-of-code j) ∙ (ap op_of e ∙ op-of-code k) in cc
+code_same j k e = let f : some j ≡ some k = sym (op_of_code j) ∙ (ap op_of e ∙ op_of_code k) in cc
 
 -- the walk past an item, by the byte at its place
-pub by_byte : (ks s : List ℕ) (w : Walk) (b : ℕ) → byte_of s w ≡ b → nextWalk ks s w ≡ walkBy ks s w b
-unfolding nextWalk
-by_byte ks s w b e = ap (walkBy ks s w) e
+pub by_byte : (ks s : List ℕ) (w : Walk) (b : ℕ) → byte_of s w ≡ b → next_walk ks s w ≡ walk_by ks s w b
+unfolding next_walk
+by_byte ks s w b e = ap (walk_by ks s w) e
 
 -- the walk past an item that opens no level and gives no name
-pub by-rest : (ks s : List ℕ) (w : Walk) (b : ℕ) → (b ≡ 2 → ⊥) → (b ≡ 3 → ⊥) → (b ≡ 4 → ⊥) → (b ≡ 1 → ⊥) → (b ≡ 7 → ⊥)
-    → walkBy ks s w b ≡ passed_by ks s w b
-by-rest ks s w b p₂ p₃ p₄ p₁ p₇ = rw (ne_eqb b 2 p₂, ne_eqb b 3 p₃, ne_eqb b 4 p₄, ne_eqb b 1 p₁, ne_eqb b 7 p₇)
+pub by_rest : (ks s : List ℕ) (w : Walk) (b : ℕ) → (b ≡ 2 → ⊥) → (b ≡ 3 → ⊥) → (b ≡ 4 → ⊥) → (b ≡ 1 → ⊥) → (b ≡ 7 → ⊥)
+    → walk_by ks s w b ≡ passed_by ks s w b
+by_rest ks s w b p₂ p₃ p₄ p₁ p₇ = rw (ne_eqb b 2 p₂, ne_eqb b 3 p₃, ne_eqb b 4 p₄, ne_eqb b 1 p₁, ne_eqb b 7 p₇)
 
 -- the offset past the item, and the innermost level there
 pub next_place : (ks s : List ℕ) (w : Walk)
-    → ((nextWalk ks s w).at ≡ pastItem ks s w.at) × ((nextWalk ks s w).top ≡ topBy w.top (byte_of s w))
-unfolding nextWalk
+    → ((next_walk ks s w).at ≡ past_item ks s w.at) × ((next_walk ks s w).top ≡ top_by w.top (byte_of s w))
+unfolding next_walk
 next_place ks s w = go (byte_of s w) (eqb (byte_of s w) 2) (eqb (byte_of s w) 3) (eqb (byte_of s w) 4) (eqb (byte_of s w) 1)
     (eqb (byte_of s w) 7) refl refl refl refl refl
   where
     go : (b : ℕ) (x y z u v : Bool) → eqb b 2 ≡ x → eqb b 3 ≡ y → eqb b 4 ≡ z → eqb b 1 ≡ u → eqb b 7 ≡ v
-        → ((walkBy ks s w b).at ≡ pastBy ks s w.at b) × ((walkBy ks s w b).top ≡ topBy w.top b)
+        → ((walk_by ks s w b).at ≡ past_by ks s w.at b) × ((walk_by ks s w b).top ≡ top_by w.top b)
     go b true y z u v e f g h i = rw e (refl, refl)
     go b false true z u v e f g h i = rw (e, f) (refl, refl)
     go b false false true u v e f g h i = rw (e, f, g) (refl, refl)
@@ -92,30 +92,30 @@ next_place ks s w = go (byte_of s w) (eqb (byte_of s w) 2) (eqb (byte_of s w) 3)
     go b false false false false false e f g h i = rw (e, f, g, h, i) (refl, refl)
 
 -- what passing the item needs of its bytes and of the level
-pub ready-pass : (ks s : List ℕ) (w : Walk) → Ready ks s w → Passable ks s w.at
-ready-pass ks s w r = record { here = r.here; routine = λ e. let z = r.room CALL e in (z.0, z.1) }
+pub ready_pass : (ks s : List ℕ) (w : Walk) → Ready ks s w → Passable ks s w.at
+ready_pass ks s w r = record { here = r.here; routine = λ e. let z = r.room CALL e in (z.0, z.1) }
 
-pub ready-level : (ks s : List ℕ) (w : Walk) → Ready ks s w → LevelReady (byte_of s w) w.top
-ready-level ks s w r = record { some-open = λ e. r.room END e; few = r.few }
+pub ready_level : (ks s : List ℕ) (w : Walk) → Ready ks s w → LevelReady (byte_of s w) w.top
+ready_level ks s w r = record { some_open = λ e. r.room END e; few = r.few }
 
 -- the offset past an item with the byte b, and the innermost level there
-pub past-byte : (ks s : List ℕ) (at b : ℕ) → get_or s at 0 ≡ b → pastItem ks s at ≡ pastBy ks s at b
-past-byte ks s at b e = ap (pastBy ks s at) e
+pub past_byte : (ks s : List ℕ) (at b : ℕ) → get_or s at 0 ≡ b → past_item ks s at ≡ past_by ks s at b
+past_byte ks s at b e = ap (past_by ks s at) e
 
-pub top_byte : (top v b : ℕ) → v ≡ b → topBy top v ≡ topBy top b
-top_byte top v b e = ap (topBy top) e
+pub top_byte : (top v b : ℕ) → v ≡ b → top_by top v ≡ top_by top b
+top_byte top v b e = ap (top_by top) e
 
 -- past a LOCK or MIRROR, and past an item without operands
-pub past_two : (ks s : List ℕ) (at : ℕ) → OneOf (2 ∷ 7 ∷ []) (get_or s at 0) → pastItem ks s at ≡ at + 2
-past_two ks s at (inl e) = past-byte ks s at 2 e
-past_two ks s at (inr e) = past-byte ks s at 7 e
+pub past_two : (ks s : List ℕ) (at : ℕ) → OneOf (2 ∷ 7 ∷ []) (get_or s at 0) → past_item ks s at ≡ at + 2
+past_two ks s at (inl e) = past_byte ks s at 2 e
+past_two ks s at (inr e) = past_byte ks s at 7 e
 
-pub past-rest : (ks s : List ℕ) (at b : ℕ) → (b ≡ 2 → ⊥) → (b ≡ 7 → ⊥) → (b ≡ 6 → ⊥) → pastBy ks s at b ≡ at + 1
-past-rest ks s at b p₂ p₇ p₆ = rw (ne_eqb b 2 p₂, ne_eqb b 7 p₇, ne_eqb b 6 p₆)
+pub past_rest : (ks s : List ℕ) (at b : ℕ) → (b ≡ 2 → ⊥) → (b ≡ 7 → ⊥) → (b ≡ 6 → ⊥) → past_by ks s at b ≡ at + 1
+past_rest ks s at b p₂ p₇ p₆ = rw (ne_eqb b 2 p₂, ne_eqb b 7 p₇, ne_eqb b 6 p₆)
 
 -- the level past an item that opens one, and past one that neither opens nor closes one
-pub top-open : (top b : ℕ) → 2 ≤ b → b ≤ 4 → topBy top b ≡ top + 1
-top-open top b l h = rw (ne_eqb b 0 (λ e. omega arith)) (go (eqb b 2) (eqb b 3) (eqb b 4) refl refl refl)
+pub top_open : (top b : ℕ) → 2 ≤ b → b ≤ 4 → top_by top b ≡ top + 1
+top_open top b l h = rw (ne_eqb b 0 (λ e. omega arith)) (go (eqb b 2) (eqb b 3) (eqb b 4) refl refl refl)
   where
     go : (x y z : Bool) → eqb b 2 ≡ x → eqb b 3 ≡ y → eqb b 4 ≡ z
         → cond x (top + 1) (cond y (top + 1) (cond z (top + 1) top)) ≡ top + 1
@@ -125,23 +125,23 @@ top-open top b l h = rw (ne_eqb b 0 (λ e. omega arith)) (go (eqb b 2) (eqb b 3)
     go false false false e f g =
         absurd (let a = eqb-false b 2 e in let c = eqb-false b 3 f in let d = eqb-false b 4 g in omega arith)
 
-pub top-rest : (top b : ℕ) → (b ≡ 0 → ⊥) → (b ≡ 2 → ⊥) → (b ≡ 3 → ⊥) → (b ≡ 4 → ⊥) → topBy top b ≡ top
-top-rest top b p₀ p₂ p₃ p₄ = rw (ne_eqb b 0 p₀, ne_eqb b 2 p₂, ne_eqb b 3 p₃, ne_eqb b 4 p₄)
+pub top_rest : (top b : ℕ) → (b ≡ 0 → ⊥) → (b ≡ 2 → ⊥) → (b ≡ 3 → ⊥) → (b ≡ 4 → ⊥) → top_by top b ≡ top
+top_rest top b p₀ p₂ p₃ p₄ = rw (ne_eqb b 0 p₀, ne_eqb b 2 p₂, ne_eqb b 3 p₃, ne_eqb b 4 p₄)
 
 -- the first byte that is left
 pub first_byte : (s : List ℕ) (at x : ℕ) (l : List ℕ) → drop at s ≡ x ∷ l → get_or s at 0 ≡ x
 first_byte s at x l e = let z : at ≡ at + 0 = omega arith in ap (λ (v : ℕ). get_or s v 0) z ∙ byte_at s at 0 (x ∷ l) e
 
 -- an item lies in the section
-pub item-there : (s t : List ℕ) (at : ℕ) (ls : List Level) → drop at s ≡ bytes ls ++ t → 0 < length (itemBytes ls)
-    → at + length (itemBytes ls) ≤ length s
-item-there s t at ls e l =
+pub item_there : (s t : List ℕ) (at : ℕ) (ls : List Level) → drop at s ≡ bytes ls ++ t → 0 < length (item_bytes ls)
+    → at + length (item_bytes ls) ≤ length s
+item_there s t at ls e l =
     let a : length (drop at s) ≡ length s - at = length-drop at s in
     let b : length (drop at s) ≡ length (bytes ls) + length t = ap length e ∙ length-append (bytes ls) t in
-    let d = bytes-length ls in
+    let d = bytes_length ls in
     omega arith
 
-some_bytes : (l : Level) (ls : List Level) → 0 < length (itemBytes (l ∷ ls))
+some_bytes : (l : Level) (ls : List Level) → 0 < length (item_bytes (l ∷ ls))
 some_bytes (level end u π) ls = omega arith
 some_bytes (level (new x c) u π) ls = omega arith
 some_bytes (level (lock x c d) u π) ls = omega arith
@@ -185,21 +185,21 @@ module _ (ks s t : List ℕ) (at top : ℕ) where
   item (level (new x c) u π ∷ ls) p = (NEW, first_byte s at _ _ p.content, (x, c, u, π, ls, refl), λ g. tt)
   item (level (lock x c d) u π ∷ ls) p =
       let z = p.count in
-      let o = p.levels.0.few-open in
-      let l = item-there s t at (level (lock x c d) u π ∷ ls) p.content (omega arith) in
+      let o = p.levels.0.few_open in
+      let l = item_there s t at (level (lock x c d) u π ∷ ls) p.content (omega arith) in
       (LOCK, first_byte s at _ _ p.content, (x, c, d, u, π, ls, refl), λ g. (omega arith, omega arith))
   item (level (fork i c d) u π ∷ ls) p =
       let z = p.count in
-      let o = p.levels.0.few-open in
+      let o = p.levels.0.few_open in
       (FORK, first_byte s at _ _ p.content, (i, c, d, u, π, ls, refl), λ g. omega arith)
   item (level (choice a b c) u π ∷ ls) p =
       let z = p.count in
-      let o = p.levels.0.few-open in
+      let o = p.levels.0.few_open in
       (CHOICE, first_byte s at _ _ p.content, tt, λ g. omega arith)
   item (level (call r xs c) u π ∷ ls) p =
       let e : get_or s (at + 1) 0 ≡ r = byte_at s at 1 _ p.content in
       let n = p.levels.0.calling in
-      let l = item-there s t at (level (call r xs c) u π ∷ ls) p.content (omega arith) in
+      let l = item_there s t at (level (call r xs c) u π ∷ ls) p.content (omega arith) in
       let k : length xs ≡ get_or ks (get_or s (at + 1) 0) 0 = rw e n.1 in (
         CALL,
         first_byte s at _ _ p.content,
@@ -207,21 +207,21 @@ module _ (ks s t : List ℕ) (at top : ℕ) where
         λ g. (omega arith, rw e n.0, omega arith),
       )
   item (level (mirror x y c) u π ∷ ls) p =
-      let l = item-there s t at (level (mirror x y c) u π ∷ ls) p.content (omega arith) in
+      let l = item_there s t at (level (mirror x y c) u π ∷ ls) p.content (omega arith) in
       (MIRROR, first_byte s at _ _ p.content, (x, y, c, u, π, ls, refl), λ g. omega arith)
 
-  pub at-kind : (k : Op) (ls : List Level) → Left ks s t at top ls → get_or s at 0 ≡ code k → Shape k ls
-  at-kind k ls p e =
+  pub at_kind : (k : Op) (ls : List Level) → Left ks s t at top ls → get_or s at 0 ≡ code k → Shape k ls
+  at_kind k ls p e =
       let z = item ls p in subst (λ (j : Op). Shape j ls) (code_same z.0 k (sym z.1 ∙ e)) z.2
 
-  pub place-there : (ls : List Level) → Left ks s t at top ls → at < length s
-  place-there [] p = absurd (let z = p.count in omega arith)
-  place-there (l ∷ ls) p =
-      let a = some_bytes l ls in let b = item-there s t at (l ∷ ls) p.content a in omega arith
+  pub place_there : (ls : List Level) → Left ks s t at top ls → at < length s
+  place_there [] p = absurd (let z = p.count in omega arith)
+  place_there (l ∷ ls) p =
+      let a = some_bytes l ls in let b = item_there s t at (l ∷ ls) p.content a in omega arith
 
-  pub few-levels : (ls : List Level) → Left ks s t at top ls → top ≤ 16
-  few-levels [] p = absurd (let z = p.count in omega arith)
-  few-levels (level c u π ∷ ls) p = let z = p.count in let o = p.levels.0.few-open in omega arith
+  pub few_levels : (ls : List Level) → Left ks s t at top ls → top ≤ 16
+  few_levels [] p = absurd (let z = p.count in omega arith)
+  few_levels (level c u π ∷ ls) p = let z = p.count in let o = p.levels.0.few_open in omega arith
 
   pub room : (ls : List Level) → Left ks s t at top ls → Going s at top
       → (k : Op) → get_or s at 0 ≡ code k → RoomAt ks s at top k
@@ -231,8 +231,8 @@ module _ (ks s t : List ℕ) (at top : ℕ) where
 
   -- what is left past the item, at the next offset and with the level that is innermost there
   stepped : (ls ms : List Level) (top' : ℕ) → Left ks s t at top ls → past ls ≡ ms
-      → pastItem ks s at ≡ at + length (itemBytes ls) → topBy top (get_or s at 0) ≡ top' → length ms ≡ top' + 1
-      → Levels ks ms → Left ks s t (pastItem ks s at) (topBy top (get_or s at 0)) (past ls)
+      → past_item ks s at ≡ at + length (item_bytes ls) → top_by top (get_or s at 0) ≡ top' → length ms ≡ top' + 1
+      → Levels ks ms → Left ks s t (past_item ks s at) (top_by top (get_or s at 0)) (past ls)
   stepped ls ms top' p e f h n l =
       rw (f, h) (record {
         content = drop_past s t at ls p.content;
@@ -241,45 +241,45 @@ module _ (ks s t : List ℕ) (at top : ℕ) where
       })
 
   pub step : (ls : List Level) → Left ks s t at top ls → Going s at top
-      → Left ks s t (pastItem ks s at) (topBy top (get_or s at 0)) (past ls)
+      → Left ks s t (past_item ks s at) (top_by top (get_or s at 0)) (past ls)
   step [] p g = absurd (let z = p.count in omega arith)
   step (level end none π ∷ ls) p g =
       let e : get_or s at 0 ≡ 0 = first_byte s at _ _ p.content in
       let o = g e in
-      stepped _ ls (top - 1) p refl (past-byte ks s at 0 e) (top_byte top _ 0 e)
+      stepped _ ls (top - 1) p refl (past_byte ks s at 0 e) (top_byte top _ 0 e)
       (let z = p.count in omega arith) p.levels.2
   step (level end (some (other b κ)) π ∷ ls) p g =
       let e : get_or s at 0 ≡ 5 = first_byte s at _ _ p.content in
-      stepped _ (level b none κ ∷ ls) top p refl (past-byte ks s at 5 e) (top_byte top _ 5 e) p.count
+      stepped _ (level b none κ ∷ ls) top p refl (past_byte ks s at 5 e) (top_byte top _ 5 e) p.count
       (p.levels.1, tt, p.levels.2)
   step (level (new x c) u π ∷ ls) p g =
       let e : get_or s at 0 ≡ 1 = first_byte s at _ _ p.content in
       let q = p.levels in
-      stepped _ _ top p refl (past-byte ks s at 1 e) (top_byte top _ 1 e) p.count
-      (record { calling = q.0.calling; few-open = q.0.few-open }, q.1, q.2)
+      stepped _ _ top p refl (past_byte ks s at 1 e) (top_byte top _ 1 e) p.count
+      (record { calling = q.0.calling; few_open = q.0.few_open }, q.1, q.2)
   step (level (lock x c d) u π ∷ ls) p g =
       let e : get_or s at 0 ≡ 2 = first_byte s at _ _ p.content in
-      let q = p.levels in let o = q.0.few-open in let n = q.0.calling in
-      stepped _ _ (top + 1) p refl (past-byte ks s at 2 e) (top_byte top _ 2 e) (let z = p.count in omega arith) (
-        record { calling = n.0; few-open = omega arith },
+      let q = p.levels in let o = q.0.few_open in let n = q.0.calling in
+      stepped _ _ (top + 1) p refl (past_byte ks s at 2 e) (top_byte top _ 2 e) (let z = p.count in omega arith) (
+        record { calling = n.0; few_open = omega arith },
         tt,
-        (record { calling = n.1; few-open = omega arith }, q.1, q.2),
+        (record { calling = n.1; few_open = omega arith }, q.1, q.2),
       )
   step (level (fork i c d) u π ∷ ls) p g =
       let e : get_or s at 0 ≡ 3 = first_byte s at _ _ p.content in
-      let q = p.levels in let o = q.0.few-open in let n = q.0.calling in
-      stepped _ _ (top + 1) p refl (past-byte ks s at 3 e) (top_byte top _ 3 e) (let z = p.count in omega arith) (
-        record { calling = n.0; few-open = omega arith },
+      let q = p.levels in let o = q.0.few_open in let n = q.0.calling in
+      stepped _ _ (top + 1) p refl (past_byte ks s at 3 e) (top_byte top _ 3 e) (let z = p.count in omega arith) (
+        record { calling = n.0; few_open = omega arith },
         tt,
-        (record { calling = n.1; few-open = omega arith }, q.1, q.2),
+        (record { calling = n.1; few_open = omega arith }, q.1, q.2),
       )
   step (level (choice a b c) u π ∷ ls) p g =
       let e : get_or s at 0 ≡ 4 = first_byte s at _ _ p.content in
-      let q = p.levels in let o = q.0.few-open in let n = q.0.calling in
-      stepped _ _ (top + 1) p refl (past-byte ks s at 4 e) (top_byte top _ 4 e) (let z = p.count in omega arith) (
-        record { calling = n.0; few-open = omega arith },
-        record { calling = n.1; few-open = omega arith },
-        (record { calling = n.2; few-open = omega arith }, q.1, q.2),
+      let q = p.levels in let o = q.0.few_open in let n = q.0.calling in
+      stepped _ _ (top + 1) p refl (past_byte ks s at 4 e) (top_byte top _ 4 e) (let z = p.count in omega arith) (
+        record { calling = n.0; few_open = omega arith },
+        record { calling = n.1; few_open = omega arith },
+        (record { calling = n.2; few_open = omega arith }, q.1, q.2),
       )
   step (level (call r xs c) u π ∷ ls) p g =
       let e : get_or s at 0 ≡ 6 = first_byte s at _ _ p.content in
@@ -287,29 +287,29 @@ module _ (ks s t : List ℕ) (at top : ℕ) where
       let q = p.levels in let n = q.0.calling in
       let k : get_or ks (get_or s (at + 1) 0) 0 ≡ length xs = rw a (sym n.1) in
       let m : at + 2 + get_or ks (get_or s (at + 1) 0) 0 ≡ at + suc (suc (length xs)) = omega arith in
-      stepped _ _ top p refl (past-byte ks s at 6 e ∙ m) (top_byte top _ 6 e) p.count
-      (record { calling = n.3; few-open = q.0.few-open }, q.1, q.2)
+      stepped _ _ top p refl (past_byte ks s at 6 e ∙ m) (top_byte top _ 6 e) p.count
+      (record { calling = n.3; few_open = q.0.few_open }, q.1, q.2)
   step (level (mirror x y c) u π ∷ ls) p g =
       let e : get_or s at 0 ≡ 7 = first_byte s at _ _ p.content in
       let q = p.levels in
-      stepped _ _ top p refl (past-byte ks s at 7 e) (top_byte top _ 7 e) p.count
-      (record { calling = q.0.calling; few-open = q.0.few-open }, q.1, q.2)
+      stepped _ _ top p refl (past_byte ks s at 7 e) (top_byte top _ 7 e) p.count
+      (record { calling = q.0.calling; few_open = q.0.few_open }, q.1, q.2)
 
   -- the bytes that are left fill the section
-  left-length : {ls : List Level} → Left ks s t at top ls → length (bytes ls) + length t ≡ length s - at
-  left-length {ls} p =
+  left_length : {ls : List Level} → Left ks s t at top ls → length (bytes ls) + length t ≡ length s - at
+  left_length {ls} p =
       sym (length-append (bytes ls) t) ∙ (ap length (sym p.content) ∙ length-drop at s)
 
   pub filled : (l : Level) (ls : List Level) → Left ks s t at top (l ∷ ls)
       → at + length (bytes (l ∷ ls)) + length t ≡ length s
   filled l ls p =
-      let a = left-length p in let b = bytes-length (l ∷ ls) in let d = some_bytes l ls in omega arith
+      let a = left_length p in let b = bytes_length (l ∷ ls) in let d = some_bytes l ls in omega arith
 
   -- the item is the END of the body
-  at-end : (ls : List Level) → Left ks s t at top ls → get_or s at 0 ≡ code END → top ≡ 0
+  at_end : (ls : List Level) → Left ks s t at top ls → get_or s at 0 ≡ code END → top ≡ 0
       → (π : Place) × (ls ≡ level end none π ∷ [])
-  at-end ls p e n =
-      let v = at-kind END ls p e in
+  at_end ls p e n =
+      let v = at_kind END ls p e in
       let m = last v.1
       (let z = p.count in let y : length ls ≡ suc (length v.1) = ap length v.2 in omega arith) in
       (v.0, v.2 ∙ ap (λ (ms : List Level). level end none v.0 ∷ ms) m)
@@ -324,10 +324,10 @@ module _ (ks s t : List ℕ) (at top : ℕ) where
   call_met q (level (call r xs c) u π ∷ ls) p e =
       (first_byte s at _ _ p.content, e ∙ sym (byte_at s at 1 _ p.content))
 
-  pub call-here : (q : ℕ) (ls : List Level) → Left ks s t at top ls → get_or s at 0 ≡ code CALL
+  pub call_here_lem : (q : ℕ) (ls : List Level) → Left ks s t at top ls → get_or s at 0 ≡ code CALL
       → q ≡ get_or s (at + 1) 0 → AtItem (CallAt q) ls
-  call-here q ls p e f =
-      let v = at-kind CALL ls p e in
+  call_here_lem q ls p e f =
+      let v = at_kind CALL ls p e in
       let p' : Left ks s t at top (level (call v.0 v.1 v.2) v.3 v.4 ∷ v.5) = rw v.6 at p in
       rw v.6 (f ∙ byte_at s at 1 _ p'.content)
 
@@ -339,24 +339,24 @@ module _ (ks s t : List ℕ) (at top : ℕ) where
 
   -- less is left past the item
   pub shrinks : (ls : List Level) → Left ks s t at top ls → Going s at top
-      → length s - pastItem ks s at < length s - at
+      → length s - past_item ks s at < length s - at
   shrinks [] p g = absurd (let z = p.count in omega arith)
   shrinks (l ∷ ls) p g =
-      let a = left-length p in
-      let b : length (bytes (past (l ∷ ls))) + length t ≡ length s - pastItem ks s at =
+      let a = left_length p in
+      let b : length (bytes (past (l ∷ ls))) + length t ≡ length s - past_item ks s at =
       sym (length-append (bytes (past (l ∷ ls))) t)
-      ∙ (ap length (sym (step (l ∷ ls) p g).content) ∙ length-drop (pastItem ks s at) s) in
-      let d = bytes-length (l ∷ ls) in
+      ∙ (ap length (sym (step (l ∷ ls) p g).content) ∙ length-drop (past_item ks s at) s) in
+      let d = bytes_length (l ∷ ls) in
       let z = some_bytes l ls in
       omega arith
 
 -- a body is left at its start
 pub begins : (ks s t : List ℕ) (at k : ℕ) (c : Code) → Fine ks k c → drop at s ≡ encode END c ++ t
-    → Left ks s t at 0 (level c none atHead ∷ [])
+    → Left ks s t at 0 (level c none at_head ∷ [])
 begins ks s t at k c f e = record {
   content = e ∙ ap (λ (l : List ℕ). l ++ t) (sym (append-nil (encode END c)));
   count = refl;
-  levels = (record { calling = f.calling; few-open = let z = f.few-open in omega arith }, tt, tt);
+  levels = (record { calling = f.calling; few_open = let z = f.few_open in omega arith }, tt, tt);
 }
 
 -- where the body's END is met, nothing is left, and the body ends with it
@@ -365,13 +365,13 @@ module _ (ks s t : List ℕ) (at top : ℕ) (ls : List Level) (p : Left ks s t a
   pub none_left : (F : Code → Place → Type 0) → ((π : Place) → F end π → ⊥) → InLeft F ls
       → ⊥
   none_left F f i =
-      let v = at-end ks s t at top ls p e n in
+      let v = at_end ks s t at top ls p e n in
       ⊎_elim (f v.0) (⊎_elim (λ y. absurd y) (λ y. absurd y)) (rw v.1 at i)
 
-  pub end-met : (from k : ℕ) (c : Code) → Fine ks k c → drop from s ≡ encode END c ++ t
+  pub end_met : (from k : ℕ) (c : Code) → Fine ks k c → drop from s ≡ encode END c ++ t
       → at + 1 ≡ from + length (encode END c)
-  end-met from k c f h =
-      let v = at-end ks s t at top ls p e n in
+  end_met from k c f h =
+      let v = at_end ks s t at top ls p e n in
       let a = filled ks s t at top (level end none v.0) [] (rw v.1 at p) in
       let b = filled ks s t from 0 _ [] (begins ks s t from k c f h) in
       let d : length (encode END c ++ []) ≡ length (encode END c) = ap length (append-nil (encode END c)) in

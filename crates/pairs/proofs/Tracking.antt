@@ -10,81 +10,81 @@ use native.Mathlib.Decide.{ℕ_discrete}
 use lib.ListN.{length, set, length-set}
 use lib.Seq.{get_or-set_same, get_or-set_other}
 use borrow.Author.Tests.{ne_eqb, eqb-true, eqb-false, lt-ltb}
-use Rattle.table.specs.Constants.{Op, END, NEW, LOCK, FORK, CHOICE, OTHER, CALL, MIRROR, code, most-forks, most-names}
+use Rattle.table.specs.Constants.{Op, END, NEW, LOCK, FORK, CHOICE, OTHER, CALL, MIRROR, code, most_forks, most_names}
 use Rattle.table.specs.Program.{Code, end, new, lock, fork, choice, call, mirror, names, locals, forks}
 use Rattle.table.specs.WellFormed.{In}
 use Rattle.table.specs.Encoding.{Numbered}
-use Rattle.table.specs.laws.Lists.{names-low}
+use Rattle.table.specs.Laws.Lists.{names_low}
 use Rattle.rules.specs.Label.{forked}
-use Rattle.rules.specs.Model.{Place, atHead, naming, nested, underLock, underFork}
+use Rattle.rules.specs.Model.{Place, at_head, naming, nested, under_lock, under_fork}
 use Rattle.rules.specs.Number.{label_of}
-use Rattle.rules.specs.laws.Number.{label-of-number}
-use Rattle.rules.specs.laws.Nest.{by-nest, by-bind}
+use Rattle.rules.specs.Laws.Number.{label_of_number}
+use Rattle.rules.specs.Laws.Nest.{by-nest, by-bind}
 use Rattle.grid.specs.Rows.{Has, Bits}
-use Rattle.grid.specs.laws.Masks.{bits-zero, bits-or, bits-one, bits-map}
-use Rattle.table.specs.laws.Fine.{Uses, Fine}
-use Rattle.pairs.specs.Walks.{Walk, heldBy, byte_of, argOf, holderOf, threadOf, nestOf, inNest, withRoot, rootOf}
-use Rattle.pairs.specs.Walks.{SelvesTo, Selves, holderUnder, startWalk, movedWalk, enteredWalk, localWalk}
-use Rattle.pairs.specs.Walks.{nextWalk, NamesFit, Ready}
-use Rattle.pairs.proofs.Pending.{Alternative, other, Level, level, past, secondLocals, secondForks, InScope}
+use Rattle.grid.specs.Laws.Masks.{bits_zero, bits_or, bits_one, bits_map}
+use Rattle.table.specs.Laws.Fine.{Uses, Fine}
+use Rattle.pairs.specs.Walks.{Walk, held_by, byte_of, arg_of, holder_of, thread_of, nest_of, in_nest, with_root, root_of}
+use Rattle.pairs.specs.Walks.{SelvesTo, Selves, holder_under, start_walk, moved_walk, entered_walk, local_walk}
+use Rattle.pairs.specs.Walks.{next_walk, NamesFit, Ready}
+use Rattle.pairs.proofs.Pending.{Alternative, other, Level, level, past, second_locals, second_forks, InScope}
 use Rattle.pairs.proofs.Pending.{SecondInScope, Scopes, Shows, Entry, SecondEntry, Entries, Left}
-use Rattle.pairs.proofs.Steps.{byte_at, first_byte, by_byte, Going, at-kind, place-there, few-levels, room}
+use Rattle.pairs.proofs.Steps.{byte_at, first_byte, by_byte, Going, at_kind, place_there, few_levels, room}
 
 -- a name that is below 16 is a holder
-pub held-name : (x : ℕ) → x < 16 → heldBy x ≡ some x
-held-name x h = rw (lt-ltb x 16 h)
+pub held_name : (x : ℕ) → x < 16 → held_by x ≡ some x
+held_name x h = rw (lt-ltb x 16 h)
 
 module _ (k : ℕ) where
   -- the same facts, with counts written in another way
-  named-at : (n : ℕ) (rs : List ℕ) {m j m' j' : ℕ} (π : Place) (c : Code) → m ≡ m' → j ≡ j'
+  named_at : (n : ℕ) (rs : List ℕ) {m j m' j' : ℕ} (π : Place) (c : Code) → m ≡ m' → j ≡ j'
       → InScope k n rs m j π c → InScope k n rs m' j' π c
-  named-at n rs π c e f p = rw (← e, ← f) p
+  named_at n rs π c e f p = rw (← e, ← f) p
 
   second_at : (n : ℕ) (rs : List ℕ) {m j m' j' : ℕ} (u : Option Alternative) → m ≡ m' → j ≡ j'
       → SecondInScope k n rs m j u → SecondInScope k n rs m' j' u
   second_at n rs u e f p = rw (← e, ← f) p
 
-  scopes-at : (n : ℕ) (rs : List ℕ) {m j m' j' : ℕ} (ls : List Level) → m ≡ m' → j ≡ j'
+  scopes_at : (n : ℕ) (rs : List ℕ) {m j m' j' : ℕ} (ls : List Level) → m ≡ m' → j ≡ j'
       → Scopes k n rs m j ls → Scopes k n rs m' j' ls
-  scopes-at n rs ls e f p = rw (← e, ← f) p
+  scopes_at n rs ls e f p = rw (← e, ← f) p
 
   -- there are few names and forks in all
-  scopes-few : (n : ℕ) (rs : List ℕ) (m j : ℕ) (ls : List Level) → Scopes k n rs m j ls
-      → (k + m < most-names) × (j ≤ most-forks)
-  scopes-few n rs m j [] p = p
-  scopes-few n rs m j (level c u π ∷ ls) p =
-      let z = scopes-few n rs (m + locals c + secondLocals u) (j + forks c + secondForks u) ls p.2 in
+  scopes_few : (n : ℕ) (rs : List ℕ) (m j : ℕ) (ls : List Level) → Scopes k n rs m j ls
+      → (k + m < most_names) × (j ≤ most_forks)
+  scopes_few n rs m j [] p = p
+  scopes_few n rs m j (level c u π ∷ ls) p =
+      let z = scopes_few n rs (m + locals c + second_locals u) (j + forks c + second_forks u) ls p.2 in
       (omega arith, omega arith)
 
   -- and few past the code of the innermost level
-  level-few : (n : ℕ) (rs : List ℕ) (m j : ℕ) (c : Code) (u : Option Alternative) (π : Place) (ls : List Level)
-      → Scopes k n rs m j (level c u π ∷ ls) → (k + (m + locals c) < most-names) × (j + forks c ≤ most-forks)
-  level-few n rs m j c u π ls p =
-      let z = scopes-few n rs (m + locals c + secondLocals u) (j + forks c + secondForks u) ls p.2 in
+  level_few : (n : ℕ) (rs : List ℕ) (m j : ℕ) (c : Code) (u : Option Alternative) (π : Place) (ls : List Level)
+      → Scopes k n rs m j (level c u π ∷ ls) → (k + (m + locals c) < most_names) × (j + forks c ≤ most_forks)
+  level_few n rs m j c u π ls p =
+      let z = scopes_few n rs (m + locals c + second_locals u) (j + forks c + second_forks u) ls p.2 in
       (omega arith, omega arith)
 
   -- one name more changes nothing for the codes that do not have it in scope
   module _ (n : ℕ) (rs : List ℕ) (v : ℕ) where
-    named-kept : {m j : ℕ} {π : Place} {c : Code} → InScope k n rs m j π c
+    named_kept : {m j : ℕ} {π : Place} {c : Code} → InScope k n rs m j π c
         → InScope k (n + 1) (set rs (n + 1) v) m j π c
-    named-kept p = record {
+    named_kept p = record {
       numbered = p.numbered;
       scope = p.scope;
       uses = p.uses;
       low = λ x i. let l = p.low x i in omega arith;
       roots = λ x i. get_or-set_other rs (n + 1) x v 0 (λ e. let l = p.low x i in omega arith) ∙ p.roots x i;
-      low-roots = λ x i. let l = p.low-roots x i in omega arith;
+      low_roots = λ x i. let l = p.low_roots x i in omega arith;
     }
 
-    second-kept : (m j : ℕ) (u : Option Alternative) → SecondInScope k n rs m j u
+    second_kept : (m j : ℕ) (u : Option Alternative) → SecondInScope k n rs m j u
         → SecondInScope k (n + 1) (set rs (n + 1) v) m j u
-    second-kept m j none p = tt
-    second-kept m j (some (other b κ)) p = named-kept p
+    second_kept m j none p = tt
+    second_kept m j (some (other b κ)) p = named_kept p
 
-    scopes-kept : (m j : ℕ) (ls : List Level) → Scopes k n rs m j ls → Scopes k (n + 1) (set rs (n + 1) v) m j ls
-    scopes-kept m j [] p = p
-    scopes-kept m j (level c u π ∷ ls) p =
-        (named-kept p.0, second-kept _ _ u p.1, scopes-kept _ _ ls p.2)
+    scopes_kept : (m j : ℕ) (ls : List Level) → Scopes k n rs m j ls → Scopes k (n + 1) (set rs (n + 1) v) m j ls
+    scopes_kept m j [] p = p
+    scopes_kept m j (level c u π ∷ ls) p =
+        (named_kept p.0, second_kept _ _ u p.1, scopes_kept _ _ ls p.2)
 
     -- the code that has it in scope, with the root v
     named_more : {m j m' j' : ℕ} {π : Place} {c d : Code} (x z : ℕ) (p : InScope k n rs m j π c) → x ≡ n + 1 → v ≡ z
@@ -95,87 +95,87 @@ module _ (k : ℕ) where
       scope = x ∷ p.scope;
       uses = uses;
       low = λ y i. ⊎_elim (λ q. omega arith) (λ q. let h = p.low y q in omega arith) i;
-      roots = λ y i. by-bind (λ a b. rootOf (set rs (n + 1) v) y ≡ a) x z z π.roots π.roots y
+      roots = λ y i. by-bind (λ a b. root_of (set rs (n + 1) v) y ≡ a) x z z π.roots π.roots y
           (λ q. let h : y ≡ n + 1 = q ∙ e in rw h (get_or-set_same rs (n + 1) v 0 l ∙ f))
           (λ ne. ⊎_elim (λ q. absurd (ne q))
           (λ q. get_or-set_other rs (n + 1) y v 0 (λ h. let b = p.low y q in omega arith) ∙ p.roots y q) i);
-      low-roots = λ y i. by-bind (λ a b. a ≤ n + 1) x z z π.roots π.roots y (λ q. low)
-          (λ ne. ⊎_elim (λ q. absurd (ne q)) (λ q. let h = p.low-roots y q in omega arith) i);
+      low_roots = λ y i. by-bind (λ a b. a ≤ n + 1) x z z π.roots π.roots y (λ q. low)
+          (λ ne. ⊎_elim (λ q. absurd (ne q)) (λ q. let h = p.low_roots y q in omega arith) i);
     }
 
   -- a part of the code, at a place with the same roots
-  named-part : {n m j m' j' : ℕ} {rs : List ℕ} {π κ : Place} {c d : Code} (p : InScope k n rs m j π c)
+  named_part : {n m j m' j' : ℕ} {rs : List ℕ} {π κ : Place} {c d : Code} (p : InScope k n rs m j π c)
       → κ.roots ≡ π.roots → Numbered k m' j' d → Uses p.scope d → InScope k n rs m' j' κ d
-  named-part p e numbered uses = record {
+  named_part p e numbered uses = record {
     numbered = numbered;
     scope = p.scope;
     uses = uses;
     low = p.low;
     roots = λ x i. p.roots x i ∙ ap (λ (f : ℕ → ℕ). f x) (sym e);
-    low-roots = λ x i. rw e (p.low-roots x i);
+    low_roots = λ x i. rw e (p.low_roots x i);
   }
 
 -- inside a LOCK the roots are those outside
-lock-roots : (z : ℕ) (π : Place) → (underLock z π).roots ≡ π.roots
-lock-roots z π = by-nest (λ v. v.roots ≡ π.roots) z π (λ i. refl) (λ n. refl)
+lock_roots : (z : ℕ) (π : Place) → (under_lock z π).roots ≡ π.roots
+lock_roots z π = by-nest (λ v. v.roots ≡ π.roots) z π (λ i. refl) (λ n. refl)
 
 -- what the test of a nest tells
-pub in-nest : (m z : ℕ) → inNest m z ≡ true → Has m z
-in-nest m z e = eqb-true (m / 2 ^ z % 2) 1 e
+pub in_nest_lem : (m z : ℕ) → in_nest m z ≡ true → Has m z
+in_nest_lem m z e = eqb-true (m / 2 ^ z % 2) 1 e
 
-pub not-in-nest : (m z : ℕ) → inNest m z ≡ false → ¬ Has m z
-not-in-nest m z e = eqb-false (m / 2 ^ z % 2) 1 e
+pub not_in_nest : (m z : ℕ) → in_nest m z ≡ false → ¬ Has m z
+not_in_nest m z e = eqb-false (m / 2 ^ z % 2) 1 e
 
 -- the place after a NEW or MIRROR, as the walk shows it
-shows-naming : {h t m : ℕ} {π : Place} (x z : ℕ) → Shows h t m π → Shows h t m (naming x z π)
-shows-naming x z k = record { holder = k.holder; thread = k.thread; low = k.low; nest = k.nest }
+shows_naming : {h t m : ℕ} {π : Place} (x z : ℕ) → Shows h t m π → Shows h t m (naming x z π)
+shows_naming x z k = record { holder = k.holder; thread = k.thread; low = k.low; nest = k.nest }
 
 -- the place inside a LOCK on a name with the root z, as the walk shows it
 module _ {h t m : ℕ} {π : Place} (k : Shows h t m π) (z : ℕ) (low : z < 16) where
-  nest-more : Bits (withRoot m z) (λ y. (y ≡ z) ⊎ In y π.nest)
-  nest-more = bits-map (λ y. ⊎_elim (λ i. inr i) (λ e. inl e)) (λ y. ⊎_elim (λ e. inr e) (λ i. inl i))
-      (bits-or k.nest (bits-one z low))
+  nest_more : Bits (with_root m z) (λ y. (y ≡ z) ⊎ In y π.nest)
+  nest_more = bits_map (λ y. ⊎_elim (λ i. inr i) (λ e. inl e)) (λ y. ⊎_elim (λ e. inr e) (λ i. inl i))
+      (bits_or k.nest (bits_one z low))
 
-  shows-lock : Shows (holderUnder m h z) t (withRoot m z) (underLock z π)
-  shows-lock = by-nest (λ v. Shows (holderUnder m h z) t (withRoot m z) v) z π again first
+  shows_lock : Shows (holder_under m h z) t (with_root m z) (under_lock z π)
+  shows_lock = by-nest (λ v. Shows (holder_under m h z) t (with_root m z) v) z π again first
     where
-      again : In z π.nest → Shows (holderUnder m h z) t (withRoot m z) π
+      again : In z π.nest → Shows (holder_under m h z) t (with_root m z) π
       again i = record {
         holder = rw (k.nest.from z i) k.holder;
         thread = k.thread;
         low = k.low;
-        nest = bits-map (λ y. ⊎_elim (λ e. rw e i) (λ j. j)) (λ y j. inr j) nest-more;
+        nest = bits_map (λ y. ⊎_elim (λ e. rw e i) (λ j. j)) (λ y j. inr j) nest_more;
       }
 
-      first : ¬ In z π.nest → Shows (holderUnder m h z) t (withRoot m z) (nested z π)
+      first : ¬ In z π.nest → Shows (holder_under m h z) t (with_root m z) (nested z π)
       first n = record {
-        holder = rw (ne_eqb (m / 2 ^ z % 2) 1 (λ e. n (k.nest.to z e))) (sym (held-name z low));
+        holder = rw (ne_eqb (m / 2 ^ z % 2) 1 (λ e. n (k.nest.to z e))) (sym (held_name z low));
         thread = k.thread;
         low = k.low;
-        nest = nest-more;
+        nest = nest_more;
       }
 
 -- entries from the n-th on do not matter to n levels
-second-set : (hs ts ns : List ℕ) (n v q m i : ℕ) (u : Option Alternative) → i < n → SecondEntry hs ts ns i u
+second_set : (hs ts ns : List ℕ) (n v q m i : ℕ) (u : Option Alternative) → i < n → SecondEntry hs ts ns i u
     → SecondEntry (set hs n v) (set ts n q) (set ns n m) i u
-second-set hs ts ns n v q m i none l p = tt
-second-set hs ts ns n v q m i (some (other b κ)) l p = rw (
+second_set hs ts ns n v q m i none l p = tt
+second_set hs ts ns n v q m i (some (other b κ)) l p = rw (
   get_or-set_other hs n i v 0 (λ e. omega arith),
   get_or-set_other ts n i q 0 (λ e. omega arith),
   get_or-set_other ns n i m 0 (λ e. omega arith),
 ) p
 
-entries-set : (hs ts ns : List ℕ) (n v q m : ℕ) (ls : List Level) → length ls ≤ n → Entries hs ts ns ls
+entries_set : (hs ts ns : List ℕ) (n v q m : ℕ) (ls : List Level) → length ls ≤ n → Entries hs ts ns ls
     → Entries (set hs n v) (set ts n q) (set ns n m) ls
-entries-set hs ts ns n v q m [] l p = tt
-entries-set hs ts ns n v q m (level c u π ∷ ls) l p = (
+entries_set hs ts ns n v q m [] l p = tt
+entries_set hs ts ns n v q m (level c u π ∷ ls) l p = (
   rw (
     get_or-set_other hs n (length ls) v 0 (λ e. omega arith),
     get_or-set_other ts n (length ls) q 0 (λ e. omega arith),
     get_or-set_other ns n (length ls) m 0 (λ e. omega arith),
   ) p.0,
-  second-set hs ts ns n v q m (length ls) u (omega arith) p.1,
-  entries-set hs ts ns n v q m ls (omega arith) p.2,
+  second_set hs ts ns n v q m (length ls) u (omega arith) p.1,
+  entries_set hs ts ns n v q m ls (omega arith) p.2,
 )
 
 -- a second alternative has the place that the numbers show
@@ -184,14 +184,14 @@ SecondShows h t m none = Unit {0}
 SecondShows h t m (some (other b κ)) = Shows h t m κ
 
 -- one level more
-entries-open : (hs ts ns : List ℕ) (n v q m : ℕ) (c : Code) (u : Option Alternative) (κ : Place) (ls : List Level)
+entries_open : (hs ts ns : List ℕ) (n v q m : ℕ) (c : Code) (u : Option Alternative) (κ : Place) (ls : List Level)
     → length ls ≡ n → n < length hs → n < length ts → n < length ns
     → Shows v q m κ → SecondShows v q m u → Entries hs ts ns ls
     → Entries (set hs n v) (set ts n q) (set ns n m) (level c u κ ∷ ls)
-entries-open hs ts ns n v q m c u κ ls e lh lt ln k k' p = (
+entries_open hs ts ns n v q m c u κ ls e lh lt ln k k' p = (
   rw (e, get_or-set_same hs n v 0 lh, get_or-set_same ts n q 0 lt, get_or-set_same ns n m 0 ln) k,
   second u k',
-  entries-set hs ts ns n v q m ls (omega arith) p,
+  entries_set hs ts ns n v q m ls (omega arith) p,
 )
   where
     second : (u : Option Alternative) → SecondShows v q m u
@@ -206,51 +206,51 @@ pub record Tracked (k : ℕ) (w : Walk) (ls : List Level) : Type 0 where
   pub last : w.last ≡ k + made
   pub scopes : Scopes k w.last w.roots made w.forks ls
   pub entries : Entries w.holders w.threads w.nests ls
-  pub long-holders : length w.holders ≡ 17
-  pub long-threads : length w.threads ≡ 17
-  pub long-nests : length w.nests ≡ 17
-  pub long-roots : length w.roots ≡ 16
+  pub long_holders : length w.holders ≡ 17
+  pub long_threads : length w.threads ≡ 17
+  pub long_nests : length w.nests ≡ 17
+  pub long_roots : length w.roots ≡ 16
 
 module _ (k : ℕ) (w : Walk) where
   -- a name in scope is below 16, and so is its root
   module _ (c : Code) (u : Option Alternative) (π : Place) (ls : List Level) (o : Tracked k w (level c u π ∷ ls)) where
-    pub name-low : (x : ℕ) → In x o.scopes.0.scope → x < 16
-    name-low x i =
+    pub name_low : (x : ℕ) → In x o.scopes.0.scope → x < 16
+    name_low x i =
         let a = o.scopes.0.low x i in
-        let few = level-few k w.last w.roots o.made w.forks c u π ls o.scopes in
+        let few = level_few k w.last w.roots o.made w.forks c u π ls o.scopes in
         let b = o.last in
         omega arith
 
-    pub root-low : (x : ℕ) → In x o.scopes.0.scope → rootOf w.roots x < 16
-    root-low x i =
-        let a = o.scopes.0.low-roots x i in
+    pub root_low : (x : ℕ) → In x o.scopes.0.scope → root_of w.roots x < 16
+    root_low x i =
+        let a = o.scopes.0.low_roots x i in
         let e = o.scopes.0.roots x i in
-        let few = level-few k w.last w.roots o.made w.forks c u π ls o.scopes in
+        let few = level_few k w.last w.roots o.made w.forks c u π ls o.scopes in
         let b = o.last in
         omega arith
 
 module _ (ks s t : List ℕ) (k : ℕ) (w : Walk) where
   -- the entry of the innermost level
-  pub top-entry : (c : Code) (u : Option Alternative) (π : Place) (ls : List Level)
+  pub top_entry : (c : Code) (u : Option Alternative) (π : Place) (ls : List Level)
       → Left ks s t w.at w.top (level c u π ∷ ls) → Tracked k w (level c u π ∷ ls)
-      → Shows (holderOf w) (threadOf w) (nestOf w) π
-  top-entry c u π ls p q =
+      → Shows (holder_of w) (thread_of w) (nest_of w) π
+  top_entry c u π ls p q =
       let n : length ls ≡ w.top = let z = p.count in omega arith in
       subst (λ (v : ℕ). Entry w.holders w.threads w.nests v π) n q.entries.0
 
   -- past an item that opens no level and gives no name
   moves : (at top : ℕ) {ls : List Level} (ms : List Level) (q : Tracked k w ls)
       → Scopes k w.last w.roots q.made w.forks ms → Entries w.holders w.threads w.nests ms
-      → Tracked k (movedWalk w at top) ms
+      → Tracked k (moved_walk w at top) ms
   moves at top ms q a b = record {
     made = q.made;
     last = q.last;
     scopes = a;
     entries = b;
-    long-holders = q.long-holders;
-    long-threads = q.long-threads;
-    long-nests = q.long-nests;
-    long-roots = q.long-roots;
+    long_holders = q.long_holders;
+    long_threads = q.long_threads;
+    long_nests = q.long_nests;
+    long_roots = q.long_roots;
   }
 
   -- past an item that opens a level, at the place κ
@@ -258,22 +258,22 @@ module _ (ks s t : List ℕ) (k : ℕ) (w : Walk) where
       → Left ks s t w.at w.top (level e u π ∷ ls) → (o : Tracked k w (level e u π ∷ ls)) → w.top < 16
       → Scopes k w.last w.roots o.made j (level c z κ ∷ level d u π ∷ ls)
       → Shows v q m κ → SecondShows v q m z
-      → Tracked k (enteredWalk (movedWalk w at (w.top + 1)) j v q m) (level c z κ ∷ level d u π ∷ ls)
+      → Tracked k (entered_walk (moved_walk w at (w.top + 1)) j v q m) (level c z κ ∷ level d u π ∷ ls)
   opens at j v q m c d z u π κ ls p o r a y y' =
       let n = p.count in
-      let lh = o.long-holders in
-      let lt = o.long-threads in
-      let ln = o.long-nests in
+      let lh = o.long_holders in
+      let lt = o.long_threads in
+      let ln = o.long_nests in
       record {
         made = o.made;
         last = o.last;
         scopes = a;
-        entries = entries-open w.holders w.threads w.nests (w.top + 1) v q m c z κ (level d u π ∷ ls)
+        entries = entries_open w.holders w.threads w.nests (w.top + 1) v q m c z κ (level d u π ∷ ls)
             (omega arith) (omega arith) (omega arith) (omega arith) y y' o.entries;
-        long-holders = length-set w.holders (w.top + 1) v ∙ lh;
-        long-threads = length-set w.threads (w.top + 1) q ∙ lt;
-        long-nests = length-set w.nests (w.top + 1) m ∙ ln;
-        long-roots = o.long-roots;
+        long_holders = length-set w.holders (w.top + 1) v ∙ lh;
+        long_threads = length-set w.threads (w.top + 1) q ∙ lt;
+        long_nests = length-set w.nests (w.top + 1) m ∙ ln;
+        long_roots = o.long_roots;
       }
 
   -- past an item that gives the name x, which its code has with the root z
@@ -281,40 +281,40 @@ module _ (ks s t : List ℕ) (k : ℕ) (w : Walk) where
       → (o : Tracked k w (level c u π ∷ ls)) → locals c ≡ 1 + locals d → forks c ≡ forks d
       → x ≡ k + o.made + 1 → v ≡ z → z ≤ w.last + 1
       → Numbered k (o.made + 1) w.forks d → Uses (x ∷ o.scopes.0.scope) d
-      → Tracked k (localWalk (movedWalk w at top) v) (level d u (naming x z π) ∷ ls)
+      → Tracked k (local_walk (moved_walk w at top) v) (level d u (naming x z π) ∷ ls)
   gives at top v x z c d u π ls o e f g h low numbered uses =
       let b = o.last in
-      let l = o.long-roots in
-      let few = level-few k w.last w.roots o.made w.forks c u π ls o.scopes in
+      let l = o.long_roots in
+      let few = level_few k w.last w.roots o.made w.forks c u π ls o.scopes in
       record {
         made = o.made + 1;
         last = omega arith;
         scopes = (
           named_more k w.last w.roots v x z o.scopes.0 (omega arith) h (omega arith) low numbered uses,
-          second_at k _ _ u (omega arith) (omega arith) (second-kept k w.last w.roots v _ _ u o.scopes.1),
-          scopes-at k _ _ ls (omega arith) (omega arith) (scopes-kept k w.last w.roots v _ _ ls o.scopes.2),
+          second_at k _ _ u (omega arith) (omega arith) (second_kept k w.last w.roots v _ _ u o.scopes.1),
+          scopes_at k _ _ ls (omega arith) (omega arith) (scopes_kept k w.last w.roots v _ _ ls o.scopes.2),
         );
-        entries = (shows-naming x z o.entries.0, o.entries.1, o.entries.2);
-        long-holders = o.long-holders;
-        long-threads = o.long-threads;
-        long-nests = o.long-nests;
-        long-roots = length-set w.roots (w.last + 1) v ∙ l;
+        entries = (shows_naming x z o.entries.0, o.entries.1, o.entries.2);
+        long_holders = o.long_holders;
+        long_threads = o.long_threads;
+        long_nests = o.long_nests;
+        long_roots = length-set w.roots (w.last + 1) v ∙ l;
       }
 
   pub track : (ls : List Level) → Left ks s t w.at w.top ls → Going s w.at w.top → Tracked k w ls
-      → Tracked k (nextWalk ks s w) (past ls)
+      → Tracked k (next_walk ks s w) (past ls)
   track [] p g o = absurd (let z = p.count in omega arith)
   track (level end none π ∷ ls) p g o =
       let e : byte_of s w ≡ 0 = first_byte s w.at _ _ p.content in
       rw (by_byte ks s w 0 e)
-      (moves _ _ ls o (scopes-at k _ _ ls (omega arith) (omega arith) o.scopes.2) o.entries.2)
+      (moves _ _ ls o (scopes_at k _ _ ls (omega arith) (omega arith) o.scopes.2) o.entries.2)
   track (level end (some (other b κ)) π ∷ ls) p g o =
       let e : byte_of s w ≡ 5 = first_byte s w.at _ _ p.content in
       rw (by_byte ks s w 5 e)
       (moves _ _ (level b none κ ∷ ls) o (
-        named-at k _ _ κ b (omega arith) (omega arith) o.scopes.1,
+        named_at k _ _ κ b (omega arith) (omega arith) o.scopes.1,
         tt,
-        scopes-at k _ _ ls (omega arith) (omega arith) o.scopes.2,
+        scopes_at k _ _ ls (omega arith) (omega arith) o.scopes.2,
       )
       (o.entries.1, tt, o.entries.2))
   track (level (new x c) u π ∷ ls) p g o =
@@ -327,55 +327,55 @@ module _ (ks s t : List ℕ) (k : ℕ) (w : Walk) where
       o.scopes.0.uses)
   track (level (lock x c d) u π ∷ ls) p g o =
       let e : byte_of s w ≡ 2 = first_byte s w.at _ _ p.content in
-      let a : argOf s w ≡ x = byte_at s w.at 1 _ p.content in
+      let a : arg_of s w ≡ x = byte_at s w.at 1 _ p.content in
       let q = o.scopes.0 in
       let r = room ks s t w.at w.top _ p g LOCK e in
-      let z : rootOf w.roots x ≡ π.roots x = q.roots x q.uses.0 in
+      let z : root_of w.roots x ≡ π.roots x = q.roots x q.uses.0 in
       rw (by_byte ks s w 2 e)
-      (rw (a, z) (opens (w.at + 2) w.forks (holderUnder (nestOf w) (holderOf w) (π.roots x)) (threadOf w)
-      (withRoot (nestOf w) (π.roots x)) c d none u π (underLock (π.roots x) π) ls p o r.1 (
-        named-part k q (lock-roots (π.roots x) π) q.numbered.0 q.uses.1,
+      (rw (a, z) (opens (w.at + 2) w.forks (holder_under (nest_of w) (holder_of w) (π.roots x)) (thread_of w)
+      (with_root (nest_of w) (π.roots x)) c d none u π (under_lock (π.roots x) π) ls p o r.1 (
+        named_part k q (lock_roots (π.roots x) π) q.numbered.0 q.uses.1,
         tt,
         (
-          named-at k _ _ π d (omega arith) (omega arith) (named-part k q refl q.numbered.1 q.uses.2),
+          named_at k _ _ π d (omega arith) (omega arith) (named_part k q refl q.numbered.1 q.uses.2),
           second_at k _ _ u (omega arith) (omega arith) o.scopes.1,
-          scopes-at k _ _ ls (omega arith) (omega arith) o.scopes.2,
+          scopes_at k _ _ ls (omega arith) (omega arith) o.scopes.2,
         ),
       )
-      (shows-lock (top-entry _ u π ls p o) (π.roots x) (rw z at (root-low k w _ u π ls o x q.uses.0))) tt))
+      (shows_lock (top_entry _ u π ls p o) (π.roots x) (rw z at (root_low k w _ u π ls o x q.uses.0))) tt))
   track (level (fork i c d) u π ∷ ls) p g o =
       let e : byte_of s w ≡ 3 = first_byte s w.at _ _ p.content in
       let q = o.scopes.0 in
       let n = q.numbered in
       let r = room ks s t w.at w.top _ p g FORK e in
-      let few = level-few k w.last w.roots o.made w.forks (fork i c d) u π ls o.scopes in
+      let few = level_few k w.last w.roots o.made w.forks (fork i c d) u π ls o.scopes in
       let m : forked i ≡ label_of (w.forks + 1) =
-      rw n.0 (sym (label-of-number (forked (w.forks + 1)) (omega arith, omega arith))) in
+      rw n.0 (sym (label_of_number (forked (w.forks + 1)) (omega arith, omega arith))) in
       rw (by_byte ks s w 3 e)
-      (opens (w.at + 1) (w.forks + 1) _ (w.forks + 1) _ c d none u π (underFork i π) ls p o r (
-        named-part k q refl n.1 q.uses.0,
+      (opens (w.at + 1) (w.forks + 1) _ (w.forks + 1) _ c d none u π (under_fork i π) ls p o r (
+        named_part k q refl n.1 q.uses.0,
         tt,
         (
-          named-at k _ _ π d (omega arith) (omega arith) (named-part k q refl n.2 q.uses.1),
+          named_at k _ _ π d (omega arith) (omega arith) (named_part k q refl n.2 q.uses.1),
           second_at k _ _ u (omega arith) (omega arith) o.scopes.1,
-          scopes-at k _ _ ls (omega arith) (omega arith) o.scopes.2,
+          scopes_at k _ _ ls (omega arith) (omega arith) o.scopes.2,
         ),
       )
-      (record { holder = refl; thread = m; low = omega arith; nest = bits-zero _ (λ y i. i) }) tt)
+      (record { holder = refl; thread = m; low = omega arith; nest = bits_zero _ (λ y i. i) }) tt)
   track (level (choice a b c) u π ∷ ls) p g o =
       let e : byte_of s w ≡ 4 = first_byte s w.at _ _ p.content in
       let q = o.scopes.0 in
       let n = q.numbered in
       let r = room ks s t w.at w.top _ p g CHOICE e in
-      let y = top-entry _ u π ls p o in
+      let y = top_entry _ u π ls p o in
       rw (by_byte ks s w 4 e)
-      (opens (w.at + 1) w.forks (holderOf w) (threadOf w) (nestOf w) a c (some (other b π)) u π π ls p o r (
-        named-part k q refl n.0 q.uses.0,
-        named-part k q refl n.1 q.uses.1,
+      (opens (w.at + 1) w.forks (holder_of w) (thread_of w) (nest_of w) a c (some (other b π)) u π π ls p o r (
+        named_part k q refl n.0 q.uses.0,
+        named_part k q refl n.1 q.uses.1,
         (
-          named-part k q refl n.2 q.uses.2,
+          named_part k q refl n.2 q.uses.2,
           second_at k _ _ u (omega arith) (omega arith) o.scopes.1,
-          scopes-at k _ _ ls (omega arith) (omega arith) o.scopes.2,
+          scopes_at k _ _ ls (omega arith) (omega arith) o.scopes.2,
         ),
       )
       y y)
@@ -383,70 +383,70 @@ module _ (ks s t : List ℕ) (k : ℕ) (w : Walk) where
       let e : byte_of s w ≡ 6 = first_byte s w.at _ _ p.content in
       let q = o.scopes.0 in
       rw (by_byte ks s w 6 e)
-      (moves _ _ (level c u π ∷ ls) o (named-part k q refl q.numbered q.uses.1, o.scopes.1, o.scopes.2)
+      (moves _ _ (level c u π ∷ ls) o (named_part k q refl q.numbered q.uses.1, o.scopes.1, o.scopes.2)
       o.entries)
   track (level (mirror x y c) u π ∷ ls) p g o =
       let e : byte_of s w ≡ 7 = first_byte s w.at _ _ p.content in
-      let a : argOf s w ≡ y = byte_at s w.at 1 _ p.content in
+      let a : arg_of s w ≡ y = byte_at s w.at 1 _ p.content in
       let b = o.last in
       let q = o.scopes.0 in
       let n = q.numbered in
       let i : x ≡ k + o.made + 1 = n.0 in
-      let low = q.low-roots y q.uses.0 in
+      let low = q.low_roots y q.uses.0 in
       rw (by_byte ks s w 7 e)
-      (gives _ _ (rootOf w.roots (argOf s w)) x (π.roots y) (mirror x y c) c u π ls o refl refl i
-      (ap (rootOf w.roots) a ∙ q.roots y q.uses.0) (omega arith) n.1 q.uses.1)
+      (gives _ _ (root_of w.roots (arg_of s w)) x (π.roots y) (mirror x y c) c u π ls o refl refl i
+      (ap (root_of w.roots) a ∙ q.roots y q.uses.0) (omega arith) n.1 q.uses.1)
 
   -- what passing the item needs of the names
-  names-met : (ls : List Level) → Left ks s t w.at w.top ls → Tracked k w ls
+  names_met : (ls : List Level) → Left ks s t w.at w.top ls → Tracked k w ls
       → (j : Op) → byte_of s w ≡ code j → NamesFit s w j
-  names-met ls p o END e = tt
-  names-met ls p o NEW e =
-      let v = at-kind ks s t w.at w.top NEW ls p e in
+  names_met ls p o END e = tt
+  names_met ls p o NEW e =
+      let v = at_kind ks s t w.at w.top NEW ls p e in
       let o' : Tracked k w (level (new v.0 v.1) v.2 v.3 ∷ v.4) = rw v.5 at o in
-      let few = level-few k w.last w.roots o'.made w.forks (new v.0 v.1) v.2 v.3 v.4
+      let few = level_few k w.last w.roots o'.made w.forks (new v.0 v.1) v.2 v.3 v.4
       o'.scopes in
       let b = o'.last in
       omega arith
-  names-met ls p o LOCK e =
-      let v = at-kind ks s t w.at w.top LOCK ls p e in
+  names_met ls p o LOCK e =
+      let v = at_kind ks s t w.at w.top LOCK ls p e in
       let o' : Tracked k w (level (lock v.0 v.1 v.2) v.3 v.4 ∷ v.5) = rw v.6 at o in
       let p' : Left ks s t w.at w.top (level (lock v.0 v.1 v.2) v.3 v.4 ∷ v.5) = rw v.6 at p in
-      let a : argOf s w ≡ v.0 = byte_at s w.at 1 _ p'.content in
+      let a : arg_of s w ≡ v.0 = byte_at s w.at 1 _ p'.content in
       let i = o'.scopes.0.uses.0 in
-      rw a (name-low k w _ _ _ _ o' v.0 i, root-low k w _ _ _ _ o' v.0 i)
-  names-met ls p o FORK e =
-      let v = at-kind ks s t w.at w.top FORK ls p e in
+      rw a (name_low k w _ _ _ _ o' v.0 i, root_low k w _ _ _ _ o' v.0 i)
+  names_met ls p o FORK e =
+      let v = at_kind ks s t w.at w.top FORK ls p e in
       let o' : Tracked k w (level (fork v.0 v.1 v.2) v.3 v.4 ∷ v.5) = rw v.6 at o in
-      let few = level-few k w.last w.roots o'.made w.forks (fork v.0 v.1 v.2) v.3 v.4 v.5
+      let few = level_few k w.last w.roots o'.made w.forks (fork v.0 v.1 v.2) v.3 v.4 v.5
       o'.scopes in
       omega arith
-  names-met ls p o CHOICE e = tt
-  names-met ls p o OTHER e = tt
-  names-met ls p o CALL e = tt
-  names-met ls p o MIRROR e =
-      let v = at-kind ks s t w.at w.top MIRROR ls p e in
+  names_met ls p o CHOICE e = tt
+  names_met ls p o OTHER e = tt
+  names_met ls p o CALL e = tt
+  names_met ls p o MIRROR e =
+      let v = at_kind ks s t w.at w.top MIRROR ls p e in
       let o' : Tracked k w (level (mirror v.0 v.1 v.2) v.3 v.4 ∷ v.5) = rw v.6 at o in
       let p' : Left ks s t w.at w.top (level (mirror v.0 v.1 v.2) v.3 v.4 ∷ v.5) =
       rw v.6 at p in
-      let a : argOf s w ≡ v.1 = byte_at s w.at 1 _ p'.content in
-      let few = level-few k w.last w.roots o'.made w.forks (mirror v.0 v.1 v.2) v.3 v.4
+      let a : arg_of s w ≡ v.1 = byte_at s w.at 1 _ p'.content in
+      let few = level_few k w.last w.roots o'.made w.forks (mirror v.0 v.1 v.2) v.3 v.4
       v.5 o'.scopes in
       let b = o'.last in
-      (rw a (name-low k w _ _ _ _ o' v.1 o'.scopes.0.uses.0), omega arith)
+      (rw a (name_low k w _ _ _ _ o' v.1 o'.scopes.0.uses.0), omega arith)
 
   pub ready : (ls : List Level) → Left ks s t w.at w.top ls → Tracked k w ls → Going s w.at w.top
       → Ready ks s w
   ready ls p o g = record {
-    here = place-there ks s t w.at w.top ls p;
-    few = few-levels ks s t w.at w.top ls p;
+    here = place_there ks s t w.at w.top ls p;
+    few = few_levels ks s t w.at w.top ls p;
     room = room ks s t w.at w.top ls p g;
-    names = names-met ls p o;
+    names = names_met ls p o;
   }
 
 -- the arrays at the start of a body
 pub tracks : (ks : List ℕ) (at k : ℕ) (rs : List ℕ) (c : Code) → Fine ks k c → Selves rs
-    → Tracked k (startWalk at k rs) (level c none atHead ∷ [])
+    → Tracked k (start_walk at k rs) (level c none at_head ∷ [])
 tracks ks at k rs c f selves = record {
   made = 0;
   last = omega arith;
@@ -455,27 +455,27 @@ tracks ks at k rs c f selves = record {
       numbered = f.numbered;
       scope = names k;
       uses = f.uses;
-      low = names-low k;
-      roots = λ x i. let h = names-low k x i in let z = f.few-names in selves.1 x (omega arith);
-      low-roots = names-low k;
+      low = names_low k;
+      roots = λ x i. let h = names_low k x i in let z = f.few_names in selves.1 x (omega arith);
+      low_roots = names_low k;
     },
     tt,
-    (let z = f.few-names in omega arith, let z = f.few-forks in omega arith),
+    (let z = f.few_names in omega arith, let z = f.few_forks in omega arith),
   );
   entries = (
-    record { holder = refl; thread = refl; low = omega arith; nest = bits-zero _ (λ y i. i) },
+    record { holder = refl; thread = refl; low = omega arith; nest = bits_zero _ (λ y i. i) },
     tt,
     tt,
   );
-  long-holders = refl;
-  long-threads = refl;
-  long-nests = refl;
-  long-roots = selves.0;
+  long_holders = refl;
+  long_threads = refl;
+  long_nests = refl;
+  long_roots = selves.0;
 }
 
 -- one name more that is its own root
-pub one-more-self : (rs : List ℕ) (x : ℕ) → x < 16 → SelvesTo rs x → SelvesTo (set rs x x) (x + 1)
-one-more-self rs x l p = (
+pub one_more_self : (rs : List ℕ) (x : ℕ) → x < 16 → SelvesTo rs x → SelvesTo (set rs x x) (x + 1)
+one_more_self rs x l p = (
   length-set rs x x ∙ p.0,
   λ y h. elim (ℕ_discrete y x) [
     | yes e ↦ rw e (get_or-set_same rs x x 0 (let z = p.0 in omega arith))

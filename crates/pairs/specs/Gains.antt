@@ -1,14 +1,14 @@
 -- What a grid gains: the pairs that items record, and the rows of the called routines as they stand in the buffer.
 use Rattle.std.specs.Prelude.{◌≡◌, ◌⊎◌, List, map, ℕ, ◌+◌, ◌*◌, ◌^◌, ◌≤◌, ◌<◌, length, get_or, take, drop}
 use Rattle.std.proofs.Math.Option.{Option, some}
-use Rattle.table.specs.Constants.{most-params, most-forks, most-names, row-names, row-bytes}
+use Rattle.table.specs.Constants.{most_params, most_forks, most_names, row_names, row_bytes}
 use Rattle.rules.specs.Label.{Label, placed}
 use Rattle.rules.specs.Number.{label_of, labels}
 use Rattle.rules.specs.Model.{Kept, renamed}
 use Rattle.rules.specs.Derived.{Pairs}
 use Rattle.rows.specs.Bytes.{Labelled}
 use Rattle.grid.specs.Grid.{In, Pair, Small, AllKept}
-use Rattle.pairs.specs.Walks.{rootOf}
+use Rattle.pairs.specs.Walks.{root_of}
 
 -- the pair from the holder h to the holder k in thread θ
 abbrev pub HoldersGive : Option ℕ → Option ℕ → Label → ℕ → ℕ → Label → Type 0
@@ -33,16 +33,16 @@ abbrev pub names_at : List ℕ → ℕ → ℕ → List ℕ
 names_at s at n = take n (drop at s)
 
 -- the roots of the n names from an offset on
-abbrev pub rootsAt : List ℕ → List ℕ → ℕ → ℕ → List ℕ
-rootsAt rs s at n = map (rootOf rs) (names_at s at n)
+abbrev pub roots_at : List ℕ → List ℕ → ℕ → ℕ → List ℕ
+roots_at rs s at n = map (root_of rs) (names_at s at n)
 
 -- each name is below 16
 abbrev pub Low : List ℕ → Type 0
-Low xs = (i : ℕ) → get_or xs i 0 < most-names
+Low xs = (i : ℕ) → get_or xs i 0 < most_names
 
 -- the names at the offset, n of them, are below 16, and so are their roots
 abbrev pub LowAt : List ℕ → List ℕ → ℕ → ℕ → Type 0
-LowAt rs s at n = Low (names_at s at n) × Low (rootsAt rs s at n)
+LowAt rs s at n = Low (names_at s at n) × Low (roots_at rs s at n)
 
 -- the pair of two ends, where there are both, with each label of the mask m
 abbrev pub MaskGives : Option ℕ → Option ℕ → ℕ → ℕ → ℕ → Label → Type 0
@@ -58,10 +58,10 @@ pub record Placed (cell t m : ℕ) : Type 0 where
 pub record CallReady (rs ks s rows : List ℕ) (at t : ℕ) : Type 0 where
   pub there : at + 2 + get_or ks (get_or s (at + 1) 0) 0 ≤ length s
   pub routine : get_or s (at + 1) 0 < length ks
-  pub params : get_or ks (get_or s (at + 1) 0) 0 ≤ most-params
+  pub params : get_or ks (get_or s (at + 1) 0) 0 ≤ most_params
   pub names : LowAt rs s (at + 2) (get_or ks (get_or s (at + 1) 0) 0)
-  pub thread : t ≤ most-forks
-  pub long : row-bytes * length ks ≤ length rows
+  pub thread : t ≤ most_forks
+  pub long : row_bytes * length ks ≤ length rows
 
 -- what one of the first n gives
 abbrev pub Below : (ℕ → ℕ → ℕ → Label → Type 0) → ℕ → ℕ → ℕ → Label → Type 0
@@ -78,12 +78,12 @@ LineGives rows first xs θ h p n = Below (CellGives rows first xs θ h p) n
 
 -- what the first m cells of each of the first n lines give, where the row starts at `first`
 abbrev pub RowGives : List ℕ → ℕ → List ℕ → Label → Option ℕ → ℕ → ℕ → ℕ → ℕ → Label → Type 0
-RowGives rows first xs θ h m n = Below (λ i. LineGives rows (first + row-names * i) xs θ h (renamed h xs i) m) n
+RowGives rows first xs θ h m n = Below (λ i. LineGives rows (first + row_names * i) xs θ h (renamed h xs i) m) n
 
 -- n cells of a row can be recorded at a call
 pub record RowReady (rs s : List ℕ) (at k : ℕ) (rows : List ℕ) (first n t : ℕ) : Type 0 where
   pub there : at + k ≤ length s
-  pub params : k ≤ most-params
+  pub params : k ≤ most_params
   pub names : LowAt rs s at k
   pub long : first + n ≤ length rows
-  pub thread : t ≤ most-forks
+  pub thread : t ≤ most_forks

@@ -1,3 +1,3 @@
 pub mod Walks
 pub mod Gains
-pub mod Contracts
+pub mod Parts

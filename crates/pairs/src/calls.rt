@@ -1,11 +1,11 @@
 // The pairs that one LOCK or CALL records.
 ghost use Rattle.std.specs.Prelude.{◌≡◌, ◌+◌, ◌*◌, ◌^◌, ◌≤◌, ◌<◌, length, get_or};
-ghost use Rattle.table.specs.Constants.{most-forks, row-names, row-cells};
+ghost use Rattle.table.specs.Constants.{most_forks, row_names, row_cells};
 ghost use Rattle.rules.specs.Number.{label_of, labels};
 ghost use Rattle.rules.specs.Model as model;
 ghost use Rattle.grid.specs.Grid.{Small, Square};
-ghost use Rattle.pairs.specs.Walks.{heldBy};
-ghost use Rattle.pairs.specs.Gains.{Gains, HoldersGive, CallGives, MaskGives, Placed, LowAt, rootsAt};
+ghost use Rattle.pairs.specs.Walks.{held_by};
+ghost use Rattle.pairs.specs.Gains.{Gains, HoldersGive, CallGives, MaskGives, Placed, LowAt, roots_at};
 ghost use Rattle.rows.specs.Bytes.{RowBits};
 ghost use Rattle.pairs.specs.Gains.{CallReady, RowReady, LineGives, RowGives};
 
@@ -17,7 +17,7 @@ use table::scope::size;
 
 // The labels of a cell of a called row, placed in the thread: own is the thread's.
 fn placed(cell: u8, thread: u8) -> u16
-    requires { thread ≤ most-forks }
+    requires { thread ≤ most_forks }
     ensures { Placed cell thread result }
 {
     let m = cell as u16;
@@ -30,7 +30,7 @@ fn placed(cell: u8, thread: u8) -> u16
 // The caller's name for name i of a routine that is called with the k names at `at`, by their roots: NOTHING for none.
 fn renamed(roots: &[u8; MOST_NAMES], s: &[u8], at: usize, k: usize, holder: u8, i: usize) -> u8
     requires { (at + k ≤ length s.now) × LowAt roots.now s.now at k }
-    ensures { heldBy result ≡ model.renamed (heldBy holder) (rootsAt roots.now s.now at k) i }
+    ensures { held_by result ≡ model.renamed (held_by holder) (roots_at roots.now s.now at k) i }
 {
     if i == 0 {
         return holder;
@@ -46,7 +46,7 @@ fn renamed(roots: &[u8; MOST_NAMES], s: &[u8], at: usize, k: usize, holder: u8, 
 // Adds the pair (a, b) to the grid in place, for each label of m with which it is kept, unless an end is nothing.
 fn put_cell(g: &mut Grid, a: u8, b: u8, m: u16)
     requires { (m < 2 ^ labels) × Small g.old × Square g.old }
-    ensures gains { Gains g.old (MaskGives (heldBy a) (heldBy b) m) g.new }
+    ensures gains { Gains g.old (MaskGives (held_by a) (held_by b) m) g.new }
     ensures square { Square g.new }
 {
     if a < NOTHING {
@@ -59,8 +59,8 @@ fn put_cell(g: &mut Grid, a: u8, b: u8, m: u16)
 // Adds the pair of a LOCK to the grid in place: from the holder outside it to the one inside; t is the thread. Where
 // they are the same, as where the root of the name is in the nest already, or where one is nothing, there is no pair.
 pub fn locked(g: &mut Grid, h: u8, inside: u8, t: u8)
-    requires { (t ≤ most-forks) × Small g.old × Square g.old }
-    ensures gains { Gains g.old (HoldersGive (heldBy h) (heldBy inside) (label_of t))
+    requires { (t ≤ most_forks) × Small g.old × Square g.old }
+    ensures gains { Gains g.old (HoldersGive (held_by h) (held_by inside) (label_of t))
         g.new }
     ensures square { Square g.new }
 {
@@ -81,9 +81,9 @@ fn put_line(
     t: u8,
     a: u8,
 )
-    requires { RowReady roots.now s.now at k rows.now first row-names t × Small g.old × Square g.old }
+    requires { RowReady roots.now s.now at k rows.now first row_names t × Small g.old × Square g.old }
     ensures gains { Gains g.old (LineGives rows.now first
-        (rootsAt roots.now s.now at k) (label_of t) (heldBy h) (heldBy a) (k + 1))
+        (roots_at roots.now s.now at k) (label_of t) (held_by h) (held_by a) (k + 1))
         g.new }
     ensures square { Square g.new }
 {
@@ -110,9 +110,9 @@ fn put_row(
     h: u8,
     t: u8,
 )
-    requires { RowReady roots.now s.now at k rows.now first row-cells t × Small g.old × Square g.old }
+    requires { RowReady roots.now s.now at k rows.now first row_cells t × Small g.old × Square g.old }
     ensures gains { Gains g.old (RowGives rows.now first
-        (rootsAt roots.now s.now at k) (label_of t) (heldBy h) (k + 1) (k + 1)) g.new }
+        (roots_at roots.now s.now at k) (label_of t) (held_by h) (k + 1) (k + 1)) g.new }
     ensures square { Square g.new }
 {
     let mut i = 0;
@@ -139,9 +139,9 @@ pub fn called(
     requires { CallReady roots.now ks.now s.now rows.now at t × Small g.old × Square g.old }
     ensures gains { Gains g.old (CallGives (RowBits rows.now)
         (get_or s.now (at + 1) 0)
-        (rootsAt roots.now s.now (at + 2)
+        (roots_at roots.now s.now (at + 2)
         (get_or ks.now (get_or s.now (at + 1) 0) 0))
-        (label_of t) (heldBy h)) g.new }
+        (label_of t) (held_by h)) g.new }
     ensures square { Square g.new }
 {
     let r = size(s[at + 1]);

@@ -1,10 +1,10 @@
 // The walk over a body that was accepted: the routines that it calls, and the pairs that it records.
 ghost use Rattle.std.specs.Prelude.{◌≡◌, ◌⊎◌, ℕ, ◌*◌, ◌<◌, ◌≤◌, length};
-ghost use Rattle.table.specs.Constants.{most-routines, row-bytes};
+ghost use Rattle.table.specs.Constants.{most_routines, row_bytes};
 ghost use Rattle.grid.specs.Rows.{Has, Bits};
 ghost use Rattle.grid.specs.Grid.{Small};
-ghost use Rattle.table.specs.laws.Fine.{IsBody};
-ghost use Rattle.pairs.specs.Contracts.{Scans, Records};
+ghost use Rattle.table.specs.Laws.Fine.{IsBody};
+ghost use Rattle.pairs.specs.Parts.{Scans, Records};
 
 mod calls;
 pub mod walk;
@@ -23,7 +23,7 @@ pub struct Scanned {
 
 // The routines `calls`, and q.
 fn with_call(calls: u64, q: u8) -> u64
-    requires { q < most-routines }
+    requires { q < most_routines }
     ensures { Bits result (λ j. Has calls j ⊎ (j ≡ q)) }
 {
     calls | (1 << (q as u64))
@@ -31,7 +31,7 @@ fn with_call(calls: u64, q: u8) -> u64
 
 // Scans the body at `at`.
 pub fn scan(ks: &[u8], s: &[u8], at: usize) -> Scanned
-    requires { ((k : ℕ) × IsBody ks.now k s.now at) × (length ks.now ≤ most-routines) }
+    requires { ((k : ℕ) × IsBody ks.now k s.now at) × (length ks.now ≤ most_routines) }
     ensures { Scans ks.now s.now at result.next result.calls }
 {
     let mut i = at;
@@ -56,7 +56,7 @@ pub fn scan(ks: &[u8], s: &[u8], at: usize) -> Scanned
 // The grid g with the pairs that the body at `at`, of a routine with k parameters, records, where `rows` has the rows
 // of the routines.
 pub fn recorded(mut g: Grid, ks: &[u8], k: u8, s: &[u8], at: usize, rows: &[u8]) -> Grid
-    requires { IsBody ks.now k s.now at × (row-bytes * length ks.now ≤ length rows.now) × Small g }
+    requires { IsBody ks.now k s.now at × (row_bytes * length ks.now ≤ length rows.now) × Small g }
     ensures { Records ks.now k s.now at rows.now g result }
 {
     let mut holders = [0u8; LEVELS];

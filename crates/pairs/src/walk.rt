@@ -1,8 +1,8 @@
 // The walk over a body's bytes: a place, and what holds there at each open level.
 ghost use Rattle.std.specs.Prelude.{◌≡◌, ◌+◌, ◌≤◌, ◌<◌};
-ghost use Rattle.table.specs.Constants.{most-names, most-open};
-ghost use Rattle.pairs.specs.Walks.{walk_of, rootOf, LowRoot, Selves, inNest, withRoot, holderUnder, pastItem};
-ghost use Rattle.pairs.specs.Walks.{topBy, Enters, AddsLocal, nextWalk, holderInside, LockReady, Given};
+ghost use Rattle.table.specs.Constants.{most_names, most_open};
+ghost use Rattle.pairs.specs.Walks.{walk_of, root_of, LowRoot, Selves, in_nest, with_root, holder_under, past_item};
+ghost use Rattle.pairs.specs.Walks.{top_by, Enters, AddsLocal, next_walk, holder_inside, LockReady, Given};
 ghost use Rattle.pairs.specs.Walks.{IsOver, Passable, LevelReady, Ready};
 
 use table::limits::{CALL, CHOICE, END, FORK, LOCK, MIRROR, MOST_NAMES, MOST_OPEN, NEW};
@@ -39,8 +39,8 @@ pub fn selves() -> [u8; MOST_NAMES]
 
 // The root of the name x.
 pub fn root_of(roots: &[u8; MOST_NAMES], x: u8) -> u8
-    requires { x < most-names }
-    ensures { result ≡ rootOf roots.now x }
+    requires { x < most_names }
+    ensures { result ≡ root_of roots.now x }
 {
     roots[size(x)]
 }
@@ -55,7 +55,7 @@ pub fn over(b: u8, top: usize) -> bool
 // The offset past the item at `at`.
 pub fn past(ks: &[u8], s: &[u8], at: usize) -> usize
     requires { Passable ks.now s.now at }
-    ensures { result ≡ pastItem ks.now s.now at }
+    ensures { result ≡ past_item ks.now s.now at }
 {
     match s[at] {
         LOCK | MIRROR => at + 2,
@@ -70,7 +70,7 @@ pub fn past(ks: &[u8], s: &[u8], at: usize) -> usize
 // The innermost open level past an item with code b.
 pub fn level(b: u8, top: usize) -> usize
     requires { LevelReady b top }
-    ensures { result ≡ topBy top b }
+    ensures { result ≡ top_by top b }
 {
     match b {
         END => top - 1,
@@ -81,16 +81,16 @@ pub fn level(b: u8, top: usize) -> usize
 
 // Whether the root z is in the nest, a mask of roots.
 fn in_nest(nest: u16, z: u8) -> bool
-    requires { z < most-names }
-    ensures { result ≡ inNest nest z }
+    requires { z < most_names }
+    ensures { result ≡ in_nest nest z }
 {
     (nest >> (z as u16)) % 2 == 1
 }
 
 // The nest with the root z.
 fn with_root(nest: u16, z: u8) -> u16
-    requires { z < most-names }
-    ensures { result ≡ withRoot nest z }
+    requires { z < most_names }
+    ensures { result ≡ with_root nest z }
 {
     nest | (1u16 << (z as u16))
 }
@@ -99,7 +99,7 @@ fn with_root(nest: u16, z: u8) -> u16
 // else that root.
 fn holder_under(roots: &[u8; MOST_NAMES], nest: u16, h: u8, x: u8) -> u8
     requires { LowRoot roots.now x }
-    ensures { result ≡ holderUnder nest h (rootOf roots.now x) }
+    ensures { result ≡ holder_under nest h (root_of roots.now x) }
 {
     let root = root_of(roots, x);
     if in_nest(nest, root) { h } else { root }
@@ -108,7 +108,7 @@ fn holder_under(roots: &[u8; MOST_NAMES], nest: u16, h: u8, x: u8) -> u8
 // The holder inside the item with code b at `at`, a FORK excepted, where h is the one outside it.
 pub fn holder_inside(roots: &[u8; MOST_NAMES], s: &[u8], at: usize, b: u8, h: u8, nest: u16) -> u8
     requires { LockReady roots.now s.now at b }
-    ensures { result ≡ holderInside roots.now s.now at b h nest }
+    ensures { result ≡ holder_inside roots.now s.now at b h nest }
 {
     if b == LOCK {
         holder_under(roots, nest, h, s[at + 1])
@@ -128,7 +128,7 @@ fn entered(
     threads: &mut [u8; LEVELS],
     nests: &mut [u16; LEVELS],
 ) -> Place
-    requires { p.top ≤ most-open }
+    requires { p.top ≤ most_open }
     ensures { Enters p holders.old threads.old nests.old forks holder thread
         nest result holders.new threads.new nests.new }
 {
@@ -146,7 +146,7 @@ fn entered(
 
 // The place with one local more, whose root is written to the array.
 fn with_local(p: Place, root: u8, roots: &mut [u8; MOST_NAMES]) -> Place
-    requires { p.last + 1 < most-names }
+    requires { p.last + 1 < most_names }
     ensures { AddsLocal p roots.old root result roots.new }
 {
     let x = p.last + 1;
@@ -178,7 +178,7 @@ pub fn step(
     requires { Ready ks.now s.now (walk_of p holders.old threads.old nests.old roots.old)
         × Given s.now (walk_of p holders.old threads.old nests.old roots.old) inside thread nest }
     ensures { walk_of result holders.new threads.new nests.new roots.new
-        ≡ nextWalk ks.now s.now
+        ≡ next_walk ks.now s.now
         (walk_of p holders.old threads.old nests.old roots.old) }
 {
     let i = p.at;

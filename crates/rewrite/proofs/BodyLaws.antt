@@ -6,18 +6,18 @@ use native.Mathlib.Omega.{arith}
 use lib.ListN.{length, drop, length-set, length-append}
 use lib.Seq.{drop-drop, drop-append_seam}
 use Rattle.rewrite.specs.declared.Spot.{Spot}
-use Rattle.order.specs.Items.{Item, mark, making, mirroring, locking, calling, itemBytes, flat}
+use Rattle.order.specs.Items.{Item, mark, making, mirroring, locking, calling, item_bytes, flat}
 use Rattle.rewrite.specs.Writing.{Known}
-use Rattle.rewrite.specs.Writing.{afterItem, written, writtenAll, name_of}
+use Rattle.rewrite.specs.Writing.{after_item, written, written_all, name_of}
 use Rattle.append.specs.Appends.{Appends}
-use Rattle.append.specs.laws.Appending.{then, equal-text, nothing, same_size}
+use Rattle.append.specs.Laws.Appending.{then, equal_text, nothing, same_size}
 use Rattle.rewrite.specs.Writing.{known_of, Fits, Passed}
-use Rattle.order.specs.Standing.{Good, oldAfter, ItemAt, SomeItem, ItemsAt}
+use Rattle.order.specs.Standing.{Good, old_after, ItemAt, SomeItem, ItemsAt}
 use Rattle.order.specs.Standing.{item_at}
 use Rattle.rewrite.specs.Writing.{BodyReady, BodyWritten, at_start}
-use Rattle.order.specs.laws.Items.{bytes-some, size-short}
-use Rattle.rewrite.specs.laws.Sizes.{written-size}
-use Rattle.order.specs.laws.Standing.{item-is, item-there, bytes-there}
+use Rattle.order.specs.Laws.Items.{bytes_some, size_short}
+use Rattle.rewrite.specs.Laws.Sizes.{written_size}
+use Rattle.order.specs.Laws.Standing.{item_is, item_there, bytes_there}
 
 -- the names have room after an item
 pub record Kept (e : Known) : Type 0 where
@@ -25,15 +25,15 @@ pub record Kept (e : Known) : Type 0 where
   pub next : e.next ≤ e.old
   pub old : e.old ≤ 16
 
-kept-after : (ks : List ℕ) (e : Known) (t : Item) → Good ks e.old t → Kept e
-    → Kept (afterItem e t) × ((afterItem e t).old ≡ oldAfter e.old t)
-kept-after ks e (mark b) g k = (k, refl)
-kept-after ks e making g k =
+kept_after : (ks : List ℕ) (e : Known) (t : Item) → Good ks e.old t → Kept e
+    → Kept (after_item e t) × ((after_item e t).old ≡ old_after e.old t)
+kept_after ks e (mark b) g k = (k, refl)
+kept_after ks e making g k =
     let a = k.next in (
       record { names = length-set e.names e.old e.next ∙ k.names; next = omega arith; old = omega arith },
       refl,
     )
-kept-after ks e (mirroring y) g k =
+kept_after ks e (mirroring y) g k =
     let a = k.next in
     let b = g.0 in (
       record {
@@ -43,8 +43,8 @@ kept-after ks e (mirroring y) g k =
       },
       refl,
     )
-kept-after ks e (locking x) g k = (k, refl)
-kept-after ks e (calling r xs) g k = (k, refl)
+kept_after ks e (locking x) g k = (k, refl)
+kept_after ks e (calling r xs) g k = (k, refl)
 
 -- what is left of the items ts, and what is written
 pub record Left (ks s ps : List ℕ) (end own p : ℕ) (before names : List ℕ) (w : Spot) (now : List ℕ) (ts : List Item)
@@ -53,7 +53,7 @@ pub record Left (ks s ps : List ℕ) (end own p : ℕ) (before names : List ℕ)
   pub items_at : ItemsAt ks s w.at end w.old items l
   pub done : List ℕ
   pub appended : Appends p done before now w.out
-  pub whole : done ++ writtenAll ps (known_of names w) items ≡ writtenAll ps (at_start own) ts
+  pub whole : done ++ written_all ps (known_of names w) items ≡ written_all ps (at_start own) ts
 
 pub record Going (ks s ps : List ℕ) (at end own p : ℕ) (before names : List ℕ) (w : Spot) (now : List ℕ) : Type 0 where
   pub each : (ts : List Item) (l : List ℕ) → ItemsAt ks s at end (own + 1) ts l
@@ -80,19 +80,19 @@ module _ (ks s ps : List ℕ) (at end own p : ℕ) (before : List ℕ) where
       → BodyWritten ks s ps at end own p before now w.out
   going_end names w now g le ts l i = go (g.each ts l i)
     where
-      go : Left ks s ps end own p before names w now ts l → Appends p (writtenAll ps (at_start own) ts) before now w.out
+      go : Left ks s ps end own p before names w now ts l → Appends p (written_all ps (at_start own) ts) before now w.out
       go z = by z.items z.items_at z.whole
         where
           by : (us : List Item) → ItemsAt ks s w.at end w.old us l
-              → z.done ++ writtenAll ps (known_of names w) us ≡ writtenAll ps (at_start own) ts
-              → Appends p (writtenAll ps (at_start own) ts) before now w.out
-          by [] ia e = equal-text (sym e ∙ append-nil z.done) z.appended
+              → z.done ++ written_all ps (known_of names w) us ≡ written_all ps (at_start own) ts
+              → Appends p (written_all ps (at_start own) ts) before now w.out
+          by [] ia e = equal_text (sym e ∙ append-nil z.done) z.appended
           by (t ∷ us) ia e = absurd
-              (let a = ia.ends in let b = bytes-some t in let c = length-append (itemBytes t) (flat us) in omega arith)
+              (let a = ia.ends in let b = bytes_some t in let c = length-append (item_bytes t) (flat us) in omega arith)
 
-  pub going-size : (names : List ℕ) (w : Spot) (now : List ℕ) → Going ks s ps at end own p before names w now
+  pub going_size : (names : List ℕ) (w : Spot) (now : List ℕ) → Going ks s ps at end own p before names w now
       → BodyReady ks s ps at end own p → length now ≡ length before
-  going-size names w now g b = same_size (g.each b.items b.rest b.items_at).appended
+  going_size names w now g b = same_size (g.each b.items b.rest b.items_at).appended
 
   module _ (names : List ℕ) (w : Spot) (now : List ℕ) (g : Going ks s ps at end own p before names w now)
       (lt : w.at < end) where
@@ -108,7 +108,7 @@ module _ (ks s ps : List ℕ) (at end own p : ℕ) (before : List ℕ) where
             → (t : Item) × (vs : List Item) × ItemAt ks s w.at w.old t (flat vs ++ l)
         by [] ia = absurd (let a = ia.ends in omega arith)
         by (t ∷ us) ia =
-            (t, us, record { content = ia.content ∙ append_assoc (itemBytes t) (flat us) l; good = ia.good.0 })
+            (t, us, record { content = ia.content ∙ append_assoc (item_bytes t) (flat us) l; good = ia.good.0 })
 
     pub some_item : BodyReady ks s ps at end own p → SomeItem ks s w.at w.old
     some_item b =
@@ -117,60 +117,60 @@ module _ (ks s ps : List ℕ) (at end own p : ℕ) (before : List ℕ) where
 
     pub fits : BodyReady ks s ps at end own p → Fits names w
     fits b =
-        let t = item-there ks s w.at w.old (some_item b) in
+        let t = item_there ks s w.at w.old (some_item b) in
         let e = b.items_at.ends in
-        let c = bytes-there s at (flat b.items ++ b.rest) b.items_at.content in
+        let c = bytes_there s at (flat b.items ++ b.rest) b.items_at.content in
         let d = length-append (flat b.items) b.rest in
         let k = g.kept in
         let q = g.place in
         let f = b.few in
         let n = b.section in
-        record { low = omega arith; names-long = k.names; next = k.next; old = k.old; place = omega arith }
+        record { low = omega arith; names_long = k.names; next = k.next; old = k.old; place = omega arith }
 
     module _ (named : List ℕ) (v : Spot) (after : List ℕ)
         (h : Passed ps (item_at ks s w.at) names w named v now after) where
       passed : (t : Item) (l : List ℕ) → ItemAt ks s w.at w.old t l → Passed ps t names w named v now after
-      passed t l i = rw (item-is ks s w.at w.old t l i) at h
+      passed t l i = rw (item_is ks s w.at w.old t l i) at h
 
-      old-after : (t : Item) (l : List ℕ) → ItemAt ks s w.at w.old t l
-          → Kept (known_of named v) × (v.old ≡ oldAfter w.old t)
-      old-after t l i =
-          let k = kept-after ks (known_of names w) t i.good g.kept in
+      old_after_lem : (t : Item) (l : List ℕ) → ItemAt ks s w.at w.old t l
+          → Kept (known_of named v) × (v.old ≡ old_after w.old t)
+      old_after_lem t l i =
+          let k = kept_after ks (known_of names w) t i.good g.kept in
           let e = (passed t l i).known in
           (rw e k.0, ap (λ (x : Known). x.old) e ∙ k.1)
 
       bytes_past : (t : Item) (l : List ℕ) → ItemAt ks s w.at w.old t l → drop v.at s ≡ l
       bytes_past t l i =
-          ap (λ n. drop n s) (passed t l i).at ∙ sym (drop-drop (length (itemBytes t)) w.at s)
-          ∙ ap (drop (length (itemBytes t))) i.content ∙ drop-append_seam (itemBytes t) l
+          ap (λ n. drop n s) (passed t l i).at ∙ sym (drop-drop (length (item_bytes t)) w.at s)
+          ∙ ap (drop (length (item_bytes t))) i.content ∙ drop-append_seam (item_bytes t) l
 
-      left-on : (ts : List Item) (l : List ℕ) → ItemsAt ks s at end (own + 1) ts l
+      left_on : (ts : List Item) (l : List ℕ) → ItemsAt ks s at end (own + 1) ts l
           → Left ks s ps end own p before named v after ts l
-      left-on ts l i = by z.items z.items_at z.whole
+      left_on ts l i = by z.items z.items_at z.whole
         where
           z : Left ks s ps end own p before names w now ts l
           z = g.each ts l i
 
           by : (us : List Item) → ItemsAt ks s w.at end w.old us l
-              → z.done ++ writtenAll ps (known_of names w) us ≡ writtenAll ps (at_start own) ts
+              → z.done ++ written_all ps (known_of names w) us ≡ written_all ps (at_start own) ts
               → Left ks s ps end own p before named v after ts l
           by [] ia e = absurd (let a = ia.ends in omega arith)
           by (t ∷ us) ia e =
               let it : ItemAt ks s w.at w.old t (flat us ++ l) =
-              record { content = ia.content ∙ append_assoc (itemBytes t) (flat us) l; good = ia.good.0 } in
+              record { content = ia.content ∙ append_assoc (item_bytes t) (flat us) l; good = ia.good.0 } in
               let q = passed t (flat us ++ l) it in
               record {
                 items = us;
                 items_at = record {
                   content = bytes_past t (flat us ++ l) it;
-                  good = rw (old-after t (flat us ++ l) it).1 ia.good.1;
-                  ends = let a = q.at in let d = ia.ends in let f = length-append (itemBytes t) (flat us) in
+                  good = rw (old_after_lem t (flat us ++ l) it).1 ia.good.1;
+                  ends = let a = q.at in let d = ia.ends in let f = length-append (item_bytes t) (flat us) in
                       omega arith;
                 };
                 done = z.done ++ written ps (known_of names w) t;
                 appended = then z.appended q.text;
-                whole = append_assoc z.done (written ps (known_of names w) t) (writtenAll ps (known_of named v) us)
-                    ∙ ap (λ (k : Known). z.done ++ (written ps (known_of names w) t ++ writtenAll ps k us)) q.known
+                whole = append_assoc z.done (written ps (known_of names w) t) (written_all ps (known_of named v) us)
+                    ∙ ap (λ (k : Known). z.done ++ (written ps (known_of names w) t ++ written_all ps k us)) q.known
                     ∙ e;
               }
 
@@ -180,13 +180,13 @@ module _ (ks s ps : List ℕ) (at end own p : ℕ) (before : List ℕ) where
           let q = passed f.0 (flat f.1 ++ b.rest) f.2 in
           let a = q.at in
           let c = q.text.place in
-          let d = written-size ps (known_of names w) f.0 in
-          let e = size-short f.0 in
-          let m = bytes-some f.0 in
+          let d = written_size ps (known_of names w) f.0 in
+          let e = size_short f.0 in
+          let m = bytes_some f.0 in
           let n = g.place in (
             record {
-              each = left-on;
-              kept = (old-after f.0 (flat f.1 ++ b.rest) f.2).0;
+              each = left_on;
+              kept = (old_after_lem f.0 (flat f.1 ++ b.rest) f.2).0;
               place = omega arith;
             },
             omega arith,

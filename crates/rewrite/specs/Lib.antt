@@ -1,3 +1,3 @@
 -- One body, written as in the canonical table.
 pub mod Writing
-pub mod laws
+pub mod Laws

@@ -1,8 +1,8 @@
 -- What the functions that rewrite a body need and leave.
 use Rattle.std.specs.Prelude.{◌≡◌, List, [], ◌∷◌, ◌++◌, map, ℕ, ◌+◌, ◌≤◌, ◌<◌, length, get_or, take, drop, set}
-use Rattle.table.specs.Constants.{most-names, most-params, most_bytes, NEW, LOCK, CALL, code}
+use Rattle.table.specs.Constants.{most_names, most_params, most_bytes, NEW, LOCK, CALL, code}
 use Rattle.append.specs.Appends.{Appends}
-use Rattle.order.specs.Items.{Item, mark, making, mirroring, locking, calling, itemBytes}
+use Rattle.order.specs.Items.{Item, mark, making, mirroring, locking, calling, item_bytes}
 use Rattle.order.specs.Standing.{ItemsAt}
 use Rattle.rewrite.specs.declared.Spot.{Spot}
 
@@ -17,14 +17,14 @@ abbrev pub name_of : Known → ℕ → ℕ
 name_of e x = get_or e.names x 0
 
 -- what it knows after an item
-abbrev pub afterItem : Known → Item → Known
-afterItem e (mark b) = e
-afterItem e making =
+abbrev pub after_item : Known → Item → Known
+after_item e (mark b) = e
+after_item e making =
     record { names = set e.names e.old e.next; old = e.old + 1; next = e.next + 1 }
-afterItem e (mirroring y) =
+after_item e (mirroring y) =
     record { names = set e.names e.old (name_of e y); old = e.old + 1; next = e.next }
-afterItem e (locking x) = e
-afterItem e (calling r xs) = e
+after_item e (locking x) = e
+after_item e (calling r xs) = e
 
 -- what it writes for an item, where ps has the new numbers of the routines
 abbrev pub written : List ℕ → Known → Item → List ℕ
@@ -35,13 +35,13 @@ written ps e (locking x) = code LOCK ∷ name_of e x ∷ []
 written ps e (calling r xs) = code CALL ∷ get_or ps r 0 ∷ map (name_of e) xs
 
 -- the same of items, one after the other
-abbrev pub afterAll : Known → List Item → Known
-afterAll e [] = e
-afterAll e (t ∷ ts) = afterAll (afterItem e t) ts
+abbrev pub after_all : Known → List Item → Known
+after_all e [] = e
+after_all e (t ∷ ts) = after_all (after_item e t) ts
 
-abbrev pub writtenAll : List ℕ → Known → List Item → List ℕ
-writtenAll ps e [] = []
-writtenAll ps e (t ∷ ts) = written ps e t ++ writtenAll ps (afterItem e t) ts
+abbrev pub written_all : List ℕ → Known → List Item → List ℕ
+written_all ps e [] = []
+written_all ps e (t ∷ ts) = written ps e t ++ written_all ps (after_item e t) ts
 
 -- what the writer knows at a place, where names has the new names
 abbrev pub known_of : List ℕ → Spot → Known
@@ -51,34 +51,34 @@ known_of names w = record { names = names; old = w.old; next = w.next }
 pub record NamesAt (s : List ℕ) (at q : ℕ) (names : List ℕ) (p : ℕ) : Type 0 where
   pub there : at + q ≤ length s
   pub few : p + q < 700000
-  pub long : length names ≡ most-names
-  pub low : (i : ℕ) → i < q → get_or s (at + i) 0 < most-names
+  pub long : length names ≡ most_names
+  pub low : (i : ℕ) → i < q → get_or s (at + i) 0 < most_names
 
 -- the new names of the q names at the offset
-abbrev pub newNames : List ℕ → List ℕ → ℕ → ℕ → List ℕ
-newNames names s at q = map (λ x. get_or names x 0) (take q (drop at s))
+abbrev pub new_names : List ℕ → List ℕ → ℕ → ℕ → List ℕ
+new_names names s at q = map (λ x. get_or names x 0) (take q (drop at s))
 
 -- the place w at another offset and another place of the text
-abbrev pub movedSpot : Spot → ℕ → ℕ → Spot
-movedSpot w at out = record { at = at; old = w.old; next = w.next; out = out }
+abbrev pub moved_spot : Spot → ℕ → ℕ → Spot
+moved_spot w at out = record { at = at; old = w.old; next = w.next; out = out }
 
 -- the same, past the next name
-abbrev pub namedSpot : Spot → ℕ → ℕ → ℕ → Spot
-namedSpot w at next out = record { at = at; old = w.old + 1; next = next; out = out }
+abbrev pub named_spot : Spot → ℕ → ℕ → ℕ → Spot
+named_spot w at next out = record { at = at; old = w.old + 1; next = next; out = out }
 
 -- what there must be room for
 pub record Fits (names : List ℕ) (w : Spot) : Type 0 where
   pub low : w.at < most_bytes
-  pub names-long : length names ≡ most-names
+  pub names_long : length names ≡ most_names
   pub next : w.next ≤ w.old
-  pub old : w.old ≤ most-names
+  pub old : w.old ≤ most_names
   pub place : w.out < 500000
 
 -- the item was written and passed
 pub record Passed (ps : List ℕ) (t : Item) (names : List ℕ) (w : Spot) (named : List ℕ) (v : Spot)
     (before now : List ℕ) : Type 0 where
-  pub at : v.at ≡ w.at + length (itemBytes t)
-  pub known : known_of named v ≡ afterItem (known_of names w) t
+  pub at : v.at ≡ w.at + length (item_bytes t)
+  pub known : known_of named v ≡ after_item (known_of names w) t
   pub text : Appends w.out (written ps (known_of names w) t) before now v.out
 
 -- the same, of an item that calls nothing
@@ -98,7 +98,7 @@ pub record BodyReady (ks s ps : List ℕ) (at end own p : ℕ) : Type 0 where
   pub items : List Item
   pub rest : List ℕ
   pub items_at : ItemsAt ks s at end (own + 1) items rest
-  pub own-few : own ≤ most-params
+  pub own_few : own ≤ most_params
   pub few : p + most_bytes < 500000
   pub places : length ks ≤ length ps
   pub section : length s ≤ most_bytes
@@ -115,4 +115,4 @@ at_start own = record { names = itself16; old = own + 1; next = own + 1 }
 abbrev pub BodyWritten : List ℕ → List ℕ → List ℕ → ℕ → ℕ → ℕ → ℕ → List ℕ → List ℕ → ℕ → Type 0
 BodyWritten ks s ps at end own p before now r =
     (ts : List Item) (l : List ℕ) → ItemsAt ks s at end (own + 1) ts l
-    → Appends p (writtenAll ps (at_start own) ts) before now r
+    → Appends p (written_all ps (at_start own) ts) before now r

@@ -1,10 +1,10 @@
 // One body, written as in the canonical table: mirrors resolved and left out, locals and calls renumbered.
 ghost use Rattle.std.specs.Prelude.{◌+◌, ◌<◌, ◌≤◌, length, get_or};
-ghost use Rattle.table.specs.Constants.{most-names, most_bytes};
+ghost use Rattle.table.specs.Constants.{most_names, most_bytes};
 ghost use Rattle.append.specs.Appends.{Appends};
 ghost use Rattle.order.specs.Items.{making, locking};
-ghost use Rattle.order.specs.Standing.{NameAt, CallAt, callHere, item_at, SomeItem};
-ghost use Rattle.rewrite.specs.Writing.{NamesAt, newNames, Fits, Passed, PassedAs, MarkPassed, MirrorPassed};
+ghost use Rattle.order.specs.Standing.{NameAt, CallAt, call_here, item_at, SomeItem};
+ghost use Rattle.rewrite.specs.Writing.{NamesAt, new_names, Fits, Passed, PassedAs, MarkPassed, MirrorPassed};
 ghost use Rattle.rewrite.specs.Writing.{BodyReady, BodyWritten};
 
 use append::put_byte;
@@ -30,7 +30,7 @@ fn put_names(
     p: usize,
 ) -> usize
     requires { NamesAt s.now at q names.now p }
-    ensures { Appends p (newNames names.now s.now at q)
+    ensures { Appends p (new_names names.now s.now at q)
         out.old out.new result }
 {
     let mut i: usize = 0;
@@ -46,7 +46,7 @@ fn put_names(
 
 // Appends a NEW, and passes it.
 fn put_new(w: Spot, names: &mut [u8; MOST_NAMES], out: &mut [u8]) -> Spot
-    requires { Fits names.old w × (w.old < most-names) }
+    requires { Fits names.old w × (w.old < most_names) }
     ensures { PassedAs making names.old w names.new result out.old out.new }
 {
     let old = w.old;
@@ -63,7 +63,7 @@ fn put_new(w: Spot, names: &mut [u8; MOST_NAMES], out: &mut [u8]) -> Spot
 
 // Passes the MIRROR at w.
 fn put_mirror(s: &[u8], w: Spot, names: &mut [u8; MOST_NAMES]) -> Spot
-    requires { Fits names.old w × (w.old < most-names) × NameAt s.now (w.at + 1) }
+    requires { Fits names.old w × (w.old < most_names) × NameAt s.now (w.at + 1) }
     ensures { MirrorPassed s.now names.old w names.new result }
 {
     let at = w.at;
@@ -107,7 +107,7 @@ fn put_call(
     out: &mut [u8],
 ) -> Spot
     requires { Fits names.now w × CallAt ks.now s.now w.at places.now }
-    ensures { Passed places.now (callHere ks.now s.now w.at)
+    ensures { Passed places.now (call_here ks.now s.now w.at)
         names.now w names.now result out.old out.new }
 {
     let at = w.at;

@@ -1,7 +1,7 @@
 -- The dearest chain: n routines, each of which but the last calls the next one, and the last of which has a ring.
 use Rattle.std.specs.Prelude.{List, [], ◌∷◌, ℕ, zero, suc}
 use Rattle.table.specs.Program.{Code, end, new, lock, fork, call, Program}
-use Rattle.table.specs.Encoding.{encodeTable}
+use Rattle.table.specs.Encoding.{encode_table}
 
 -- how many parameters routine r of the chain has: none if it is routine 0, else two
 abbrev pub params_of : ℕ → ℕ
@@ -18,15 +18,15 @@ opposing k =
     new (suc k) (new (suc (suc k)) (fork 1 (lock 1 (lock 2 end end) end) (lock 2 (lock 1 end end) end)))
 
 -- m routines from routine r on that each call the next one, and then one that calls none
-abbrev pub chainFrom : ℕ → ℕ → Program
-chainFrom r zero = record { count = params_of r; code = opposing (params_of r) } ∷ []
-chainFrom r (suc m) = record { count = params_of r; code = passing (params_of r) (suc r) } ∷ chainFrom (suc r) m
+abbrev pub chain_from : ℕ → ℕ → Program
+chain_from r zero = record { count = params_of r; code = opposing (params_of r) } ∷ []
+chain_from r (suc m) = record { count = params_of r; code = passing (params_of r) (suc r) } ∷ chain_from (suc r) m
 
 -- the chain of n routines
 abbrev pub chain : ℕ → Program
 chain zero = []
-chain (suc m) = chainFrom 0 m
+chain (suc m) = chain_from 0 m
 
 -- the table of the chain of n routines
-abbrev pub chainTable : ℕ → List ℕ
-chainTable n = encodeTable (chain n)
+abbrev pub chain_table : ℕ → List ℕ
+chain_table n = encode_table (chain n)

@@ -5,4 +5,4 @@ pub mod Rounds
 pub mod Chain
 pub mod Given
 pub mod OneBody
-pub mod laws
+pub mod Laws

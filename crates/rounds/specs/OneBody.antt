@@ -7,4 +7,4 @@ pub record OnlyBody (P Q : Program) (r : ℕ) : Type 0 where
   pub listed : r < length P
   pub same_length : length Q ≡ length P
   pub same_params : (q : ℕ) → params Q q ≡ params P q
-  pub same-bodies : (q : ℕ) → q ≢ r → body Q q ≡ body P q
+  pub same_bodies : (q : ℕ) → q ≢ r → body Q q ≡ body P q

@@ -31,8 +31,8 @@ pub record Rounds (P : Program) (m : ℕ) : Type 0 where
   pub first : (i : ℕ) → Changeless P i → before ≤ i
 
 -- how often a row changes at most: three labels in 49 cells (two different names, the second not 0), and the last byte
-abbrev pub most-changes : ℕ
-most-changes = 148
+abbrev pub most_changes : ℕ
+most_changes = 148
 
 -- no calls lead from a routine of the program back to it
 abbrev pub Acyclic : Program → Type 0

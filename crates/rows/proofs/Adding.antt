@@ -13,9 +13,9 @@ use Rattle.grid.specs.Rows.{Has, Rel, Bits}
 use Rattle.rules.specs.Label.{several}
 use Rattle.grid.specs.Grid.{Pair, LowestRing}
 use Rattle.rows.specs.Added.{CellBit, AtByte, AtCell, AtName, AtRing, Below, Added}
-use Rattle.rows.specs.laws.Totals.{total-set, moves-or}
+use Rattle.rows.specs.Laws.Totals.{total_set, moves_or}
 use Rattle.rows.proofs.Masks.{no_bits}
-use Rattle.grid.specs.laws.Masks.{or-le, has_left, has_right, has-or, has-zero, has-below}
+use Rattle.grid.specs.Laws.Masks.{or_le, has_left, has_right, has_or, has_zero, has_below}
 
 pub added_none : (W : Rel) (l : List ℕ) → ((i j : ℕ) → W i j → ⊥) → Added W l l false
 added_none W l never = record {
@@ -32,7 +32,7 @@ added_then W U e m x c d p q = record {
   long = q.long ∙ p.long;
   bits = λ i. record { to = to i; from = from i };
   rest = λ i never. q.rest i (λ j u. never j (inr u)) ∙ p.rest i (λ j w. never j (inl w));
-  told = moves-or c d e m x p.told q.told;
+  told = moves_or c d e m x p.told q.told;
 }
   where
     to : (i j : ℕ) → Has (get_or x i 0) j → Has (get_or e i 0) j ⊎ (W i j ⊎ U i j)
@@ -78,8 +78,8 @@ added_more F n e m x c d p q =
         ]
 
 module _ (l : List ℕ) (i v : ℕ) where
-  pub byte-same : bit_or (get_or l i 0) v ≡ get_or l i 0 → Added (AtByte i v) l l false
-  byte-same e = record {
+  pub byte_same : bit_or (get_or l i 0) v ≡ get_or l i 0 → Added (AtByte i v) l l false
+  byte_same e = record {
     long = refl;
     bits = λ p. record {
       to = λ j h. inl h;
@@ -96,30 +96,30 @@ module _ (l : List ℕ) (i v : ℕ) where
     there : (p : ℕ) → p ≢ i → get_or (set l i (bit_or (get_or l i 0) v)) p 0 ≡ get_or l p 0
     there p n = get_or-set_other l i p (bit_or (get_or l i 0) v) 0 n
 
-    byte-bits : (p : ℕ) → Dec (p ≡ i)
+    byte_bits : (p : ℕ) → Dec (p ≡ i)
         → Bits (get_or (set l i (bit_or (get_or l i 0) v)) p 0) (λ j. Has (get_or l p 0) j ⊎ AtByte i v p j)
-    byte-bits p (yes e) =
+    byte_bits p (yes e) =
         rw (e, here)
         (record {
-          to = λ j h. ⊎_elim (λ o. inl o) (λ w. inr (refl, w)) (has-or (get_or l i 0) v j h);
+          to = λ j h. ⊎_elim (λ o. inl o) (λ w. inr (refl, w)) (has_or (get_or l i 0) v j h);
           from = λ j h. ⊎_elim (λ o. has_left (get_or l i 0) v j o) (λ w. has_right (get_or l i 0) v j w.1) h;
         })
-    byte-bits p (no n) =
+    byte_bits p (no n) =
         rw (there p n)
         (record { to = λ j h. inl h; from = λ j h. ⊎_elim (λ o. o) (λ w. absurd (n w.0)) h })
 
-    byte-rest : (p : ℕ) → Dec (p ≡ i) → ((j : ℕ) → AtByte i v p j → ⊥)
+    byte_rest : (p : ℕ) → Dec (p ≡ i) → ((j : ℕ) → AtByte i v p j → ⊥)
         → get_or (set l i (bit_or (get_or l i 0) v)) p 0 ≡ get_or l p 0
-    byte-rest p (yes e) never =
+    byte_rest p (yes e) never =
         let z : v ≡ 0 = no_bits v low (λ j h. never j (e, h)) in absurd (ne (rw (z, or_zero_r (get_or l i 0))))
-    byte-rest p (no n) never = there p n
+    byte_rest p (no n) never = there p n
 
-    pub byte-set : Added (AtByte i v) l (set l i (bit_or (get_or l i 0) v)) true
-    byte-set = record {
+    pub byte_set : Added (AtByte i v) l (set l i (bit_or (get_or l i 0) v)) true
+    byte_set = record {
       long = length-set l i (bit_or (get_or l i 0) v);
-      bits = λ p. byte-bits p (ℕ_discrete p i);
-      rest = λ p never. byte-rest p (ℕ_discrete p i) never;
-      told = omega (arith, total-set l i (bit_or (get_or l i 0) v) inside, or-le (get_or l i 0) v);
+      bits = λ p. byte_bits p (ℕ_discrete p i);
+      rest = λ p never. byte_rest p (ℕ_discrete p i) never;
+      told = omega (arith, total_set l i (bit_or (get_or l i 0) v) inside, or_le (get_or l i 0) v);
     }
 
 -- a byte that has the bits of a mask's labels, for two different names
@@ -132,17 +132,17 @@ cell-of-byte i a b m v e x c ne bits p =
 
 -- the mask 0 has no label
 pub no_cell : (i a b : ℕ) (l : List ℕ) → Added (AtCell i a b 0) l l false
-no_cell i a b l = added_none (AtCell i a b 0) l (λ p j w. has-zero w.2.1.0 w.2.1.3)
+no_cell i a b l = added_none (AtCell i a b 0) l (λ p j w. has_zero w.2.1.0 w.2.1.3)
 
 pub same_name : (i a b m : ℕ) (l : List ℕ) → a ≡ b → Added (AtCell i a b m) l l false
 same_name i a b m l e = added_none (AtCell i a b m) l (λ p j w. w.1 e)
 
 -- a ring name below 16 sets the bit, and 16 does not
-pub name-of-byte : (i y : ℕ) (e x : List ℕ) (c : Bool) → y < 16 → Added (AtByte i 1) e x c → Added (AtName i y) e x c
-name-of-byte i y e x c l p = added-map (AtByte i 1) (AtName i y) e x c to (λ q j w. (w.0, rw w.1)) p
+pub name_of_byte : (i y : ℕ) (e x : List ℕ) (c : Bool) → y < 16 → Added (AtByte i 1) e x c → Added (AtName i y) e x c
+name_of_byte i y e x c l p = added-map (AtByte i 1) (AtName i y) e x c to (λ q j w. (w.0, rw w.1)) p
   where
     to : (q j : ℕ) → AtByte i 1 q j → AtName i y q j
-    to q j w = let z : j < 1 = has-below 1 1 j (omega arith) w.1 in (w.0, omega arith, l)
+    to q j w = let z : j < 1 = has_below 1 1 j (omega arith) w.1 in (w.0, omega arith, l)
 
 pub no_name : (i y : ℕ) (l : List ℕ) → y ≡ 16 → Added (AtName i y) l l false
 no_name i y l e = added_none (AtName i y) l (λ p j w. let b : y < 16 = w.2 in omega arith)
@@ -160,7 +160,7 @@ ring-of-name i y g e x c long ring p = added-map (AtName i y) (AtRing i g) e x c
     below z w (yes h) = let s : y ≤ z = ring.lowest z w in omega arith
     below z w (no h) =
         let d : get_or g z [] ≡ [] = get_or-eq_default g [] (omega arith) in
-        absurd (has-zero w.0 (subst (λ (r : List ℕ). Has (get_or r z 0) w.0) d w.3))
+        absurd (has_zero w.0 (subst (λ (r : List ℕ). Has (get_or r z 0) w.0) d w.3))
 
     from : (q j : ℕ) → AtRing i g q j → AtName i y q j
     from q j w = let z = w.2.0 in (w.0, w.1, below z w.2.1 (dec_lt z 16))

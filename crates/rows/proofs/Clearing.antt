@@ -9,8 +9,8 @@ use lib.ListN.{length, get_or, set, length-set}
 use lib.Seq.{get_or-set_same, get_or-set_other}
 use Rattle.rows.specs.Model.{Cleared}
 
-pub cleared-none : (start : ℕ) (l : List ℕ) → Cleared start start l l
-cleared-none start l = record { long = refl; zero = λ i a b. absurd (omega arith); rest = λ i o. refl }
+pub cleared_none : (start : ℕ) (l : List ℕ) → Cleared start start l l
+cleared_none start l = record { long = refl; zero = λ i a b. absurd (omega arith); rest = λ i o. refl }
 
 pub cleared_more : (start n : ℕ) (e l : List ℕ) → start ≤ n → n < length l → Cleared start n e l
     → Cleared start (n + 1) e (set l n 0)

@@ -13,8 +13,8 @@ use Rattle.grid.specs.Grid.{Pair, LowestRing}
 use Rattle.rows.specs.Bytes.{RowBits, RingByte}
 use Rattle.rows.specs.Model.{ShapedRow, GridRow, HasRing, Moves, RowAdded}
 use Rattle.rows.specs.Added.{bit_of, AtName, AtRing, InGrid, Added}
-use Rattle.rows.proofs.Masks.{bit-lt, cut-bit, labelled-has, has-labelled}
-use Rattle.grid.specs.laws.Masks.{has-below, below-bits}
+use Rattle.rows.proofs.Masks.{bit_lt, cut_bit, labelled_has, has_labelled}
+use Rattle.grid.specs.Laws.Masks.{has_below, below_bits}
 use Rattle.rows.proofs.Adding.{added_then, ring-of-name}
 
 -- a byte of a row's cells is in one cell alone
@@ -40,15 +40,15 @@ module _ (e x : List ℕ) (r k : ℕ) (g : List (List ℕ)) (c d : Bool) (few : 
     only q a b l w = go ((added.bits (65 * q + 8 * a + b)).to (bit_of l) has.0)
       where
         has : Has (get_or x (65 * q + 8 * a + b) 0) (bit_of l) × (l ≡ cut l)
-        has = labelled-has (get_or x (65 * q + 8 * a + b) 0) l w.2
+        has = labelled_has (get_or x (65 * q + 8 * a + b) 0) l w.2
 
         go : Has (get_or e (65 * q + 8 * a + b) 0) (bit_of l) ⊎ RowWith r k g (65 * q + 8 * a + b) (bit_of l)
             → RowBits e q a b l ⊎ ((q ≡ r) × GridRow k g a b l)
-        go (inl h) = inl (w.0, w.1, rw has.1 (has-labelled (get_or e (65 * q + 8 * a + b) 0) l h))
+        go (inl h) = inl (w.0, w.1, rw has.1 (has_labelled (get_or e (65 * q + 8 * a + b) 0) l h))
         go (inr (inl (y, ly, (z, lz, (p, ne, (n, i, eb)))))) =
             let s = one_cell q r a b y z w.0 w.1 (omega arith) (omega arith) p in
             let pair : Pair g a b n = rw (s.1, s.2) i in
-            inr (s.0, (n, pair, omega arith, omega arith, λ t. ne (sym s.1 ∙ t ∙ s.2), cut-bit l n has.1 eb))
+            inr (s.0, (n, pair, omega arith, omega arith, λ t. ne (sym s.1 ∙ t ∙ s.2), cut_bit l n has.1 eb))
         go (inr (inr (p, j, ring))) =
             let ha = w.0 in let hb = w.1 in absurd (not_last q r (8 * a + b) (omega arith) (omega arith))
 
@@ -57,31 +57,31 @@ module _ (e x : List ℕ) (r k : ℕ) (g : List (List ℕ)) (c d : Bool) (few : 
       omega arith,
       omega arith,
       rw el
-          (has-labelled (get_or x (65 * r + 8 * a + b) 0) m
+          (has_labelled (get_or x (65 * r + 8 * a + b) 0) m
           ((added.bits (65 * r + 8 * a + b)).from (bit_of m)
           (inr (inl (a, omega arith, (b, omega arith, (refl, ne, (m, pair, refl)))))))),
     )
 
     old : (q a b : ℕ) (l : Label) → RowBits e q a b l → RowBits x q a b l
     old q a b l w =
-        let has = labelled-has (get_or e (65 * q + 8 * a + b) 0) l w.2 in (
+        let has = labelled_has (get_or e (65 * q + 8 * a + b) 0) l w.2 in (
           w.0,
           w.1,
           rw has.1
-              (has-labelled (get_or x (65 * q + 8 * a + b) 0) l
+              (has_labelled (get_or x (65 * q + 8 * a + b) 0) l
               ((added.bits (65 * q + 8 * a + b)).from (bit_of l) (inl has.0))),
         )
 
     outside : (i : ℕ) → (i < 65 * r) ⊎ (65 * r + 65 ≤ i) → get_or x i 0 ≡ get_or e i 0
-    outside i h = added.rest i (λ j w. ⊎_elim (in_cell h) (in-last h) w)
+    outside i h = added.rest i (λ j w. ⊎_elim (in_cell h) (in_last h) w)
       where
         in_cell : {j : ℕ} → (i < 65 * r) ⊎ (65 * r + 65 ≤ i) → InGrid (65 * r) g (k + 1) (k + 1) i j → ⊥
         in_cell (inl l) (y, ly, (z, lz, (p, ne, w))) = omega arith
         in_cell (inr l) (y, ly, (z, lz, (p, ne, w))) = omega arith
 
-        in-last : {j : ℕ} → (i < 65 * r) ⊎ (65 * r + 65 ≤ i) → AtRing (65 * r + 64) g i j → ⊥
-        in-last (inl l) w = let p = w.0 in omega arith
-        in-last (inr l) w = let p = w.0 in omega arith
+        in_last : {j : ℕ} → (i < 65 * r) ⊎ (65 * r + 65 ≤ i) → AtRing (65 * r + 64) g i j → ⊥
+        in_last (inl l) w = let p = w.0 in omega arith
+        in_last (inr l) w = let p = w.0 in omega arith
 
     other : (q : ℕ) → q ≢ r → get_or x (65 * q + 64) 0 ≡ get_or e (65 * q + 64) 0
     other q n = added.rest (65 * q + 64) (λ j w. never w)
@@ -93,79 +93,79 @@ module _ (e x : List ℕ) (r k : ℕ) (g : List (List ℕ)) (c d : Bool) (few : 
     shaped_row : (q : ℕ) → ShapedRow e q → ShapedRow x q
     shaped_row q s = record {
       cells = λ i hi.
-          below-bits 3 (get_or x (65 * q + i) 0) (let b = bytes (65 * q + i) in omega arith)
-          (λ j h. cell-bit i hi j ((added.bits (65 * q + i)).to j h));
+          below_bits 3 (get_or x (65 * q + i) 0) (let b = bytes (65 * q + i) in omega arith)
+          (λ j h. cell_bit i hi j ((added.bits (65 * q + i)).to j h));
       last =
           let z : get_or x (65 * q + 64) 0 < 2 =
-          below-bits 1 (get_or x (65 * q + 64) 0) (let b = bytes (65 * q + 64) in omega arith)
+          below_bits 1 (get_or x (65 * q + 64) 0) (let b = bytes (65 * q + 64) in omega arith)
           (λ j h. last_bit j ((added.bits (65 * q + 64)).to j h)) in
           omega arith;
     }
       where
-        cell-bit : (i : ℕ) → i < 64 → (j : ℕ) → Has (get_or e (65 * q + i) 0) j ⊎ RowWith r k g (65 * q + i) j → j < 3
-        cell-bit i hi j (inl h) = has-below (get_or e (65 * q + i) 0) 3 j (s.cells i hi) h
-        cell-bit i hi j (inr (inl (y, ly, (z, lz, (p, ne, (n, m, eb)))))) = let t = bit-lt n in omega arith
-        cell-bit i hi j (inr (inr (p, ej, ring))) = absurd (not_last q r i hi p)
+        cell_bit : (i : ℕ) → i < 64 → (j : ℕ) → Has (get_or e (65 * q + i) 0) j ⊎ RowWith r k g (65 * q + i) j → j < 3
+        cell_bit i hi j (inl h) = has_below (get_or e (65 * q + i) 0) 3 j (s.cells i hi) h
+        cell_bit i hi j (inr (inl (y, ly, (z, lz, (p, ne, (n, m, eb)))))) = let t = bit_lt n in omega arith
+        cell_bit i hi j (inr (inr (p, ej, ring))) = absurd (not_last q r i hi p)
 
         last_bit : (j : ℕ) → Has (get_or e (65 * q + 64) 0) j ⊎ RowWith r k g (65 * q + 64) j → j < 1
-        last_bit j (inl h) = has-below (get_or e (65 * q + 64) 0) 1 j (let t = s.last in omega arith) h
+        last_bit j (inl h) = has_below (get_or e (65 * q + 64) 0) 1 j (let t = s.last in omega arith) h
         last_bit j (inr (inl (y, ly, (z, lz, (p, ne, w))))) =
             absurd (not_last r q (8 * y + z) (omega arith) (omega arith))
         last_bit j (inr (inr (p, ej, ring))) = omega arith
 
     -- the last byte of row r is 0 or 1 before
     module _ (shape : ShapedRow e r) where
-      ring-only : (q : ℕ) → Dec (q ≡ r) → RingByte x q → RingByte e q ⊎ ((q ≡ r) × HasRing g)
-      ring-only q (no n) w = inl (sym (other q n) ∙ w)
-      ring-only q (yes s) w = go ((added.bits (65 * q + 64)).to 0 (rw w))
+      ring_only : (q : ℕ) → Dec (q ≡ r) → RingByte x q → RingByte e q ⊎ ((q ≡ r) × HasRing g)
+      ring_only q (no n) w = inl (sym (other q n) ∙ w)
+      ring_only q (yes s) w = go ((added.bits (65 * q + 64)).to 0 (rw w))
         where
           go : Has (get_or e (65 * q + 64) 0) 0 ⊎ RowWith r k g (65 * q + 64) 0 → RingByte e q ⊎ ((q ≡ r) × HasRing g)
           go (inl h) = let t : get_or e (65 * q + 64) 0 ≤ 1 = rw s shape.last in inl (omega arith)
           go (inr (inl (y, ly, (z, lz, (p, ne, c))))) = absurd (not_last r q (8 * y + z) (omega arith) (omega arith))
           go (inr (inr (p, ej, ring))) = inr (s, ring)
 
-      ring-old : (q : ℕ) → Dec (q ≡ r) → RingByte e q → RingByte x q
-      ring-old q (no n) w = other q n ∙ w
-      ring-old q (yes s) w =
+      ring_old : (q : ℕ) → Dec (q ≡ r) → RingByte e q → RingByte x q
+      ring_old q (no n) w = other q n ∙ w
+      ring_old q (yes s) w =
           let t = (shaped_row r shape).last in
           let h : Has (get_or x (65 * r + 64) 0) 0 = (added.bits (65 * r + 64)).from 0 (inl (rw (← s, w))) in
           rw s (omega arith)
 
-      ring-new : HasRing g → RingByte x r
-      ring-new ring =
+      ring_new : HasRing g → RingByte x r
+      ring_new ring =
           let t = (shaped_row r shape).last in
           let h : Has (get_or x (65 * r + 64) 0) 0 = (added.bits (65 * r + 64)).from 0 (inr (inr (refl, refl, ring))) in
           omega arith
 
-      row-of-added : (y : ℕ) → LowestRing g y
+      row_of_added : (y : ℕ) → LowestRing g y
           → (c ≡ false → (q i : ℕ) → i < 64 → get_or x (65 * q + i) 0 ≡ get_or e (65 * q + i) 0) → RowAdded e x r k g c d y
-      row-of-added y name same = record {
+      row_of_added y name same = record {
         long = added.long;
         outside = outside;
         only = only;
         old = old;
         new = new;
-        ring-only = λ q w. ring-only q (ℕ_discrete q r) w;
-        ring-old = λ q w. ring-old q (ℕ_discrete q r) w;
-        ring-new = ring-new;
+        ring_only = λ q w. ring_only q (ℕ_discrete q r) w;
+        ring_old = λ q w. ring_old q (ℕ_discrete q r) w;
+        ring_new = ring_new;
         shaped = λ n s q h. shaped_row q (s q h);
         told = added.told;
-        same-cells = same;
+        same_cells = same;
         named = name;
       }
 
 module _ (e m x : List ℕ) (r k : ℕ) (g : List (List ℕ)) (c d : Bool) (y : ℕ) where
   -- the last byte of row r is no cell
-  last-alone : Added (AtRing (65 * r + 64) g) m x d → (q i : ℕ) → i < 64 → get_or x (65 * q + i) 0 ≡ get_or m (65 * q + i) 0
-  last-alone p q i h = p.rest (65 * q + i) (λ j w. not_last q r i h w.0)
+  last_alone : Added (AtRing (65 * r + 64) g) m x d → (q i : ℕ) → i < 64 → get_or x (65 * q + i) 0 ≡ get_or m (65 * q + i) 0
+  last_alone p q i h = p.rest (65 * q + i) (λ j w. not_last q r i h w.0)
 
-  pub row-added : k ≤ 7 → ((i : ℕ) → get_or x i 0 < 256) → length g ≡ 16 → LowestRing g y
+  pub row_added : k ≤ 7 → ((i : ℕ) → get_or x i 0 < 256) → length g ≡ 16 → LowestRing g y
       → ShapedRow e r → Added (InGrid (65 * r) g (k + 1) (k + 1)) e m c
       → Added (AtName (65 * r + 64) y) m x d → RowAdded e x r k g c d y
-  row-added few bytes long name shape p n =
-      row-of-added e x r k g c d few bytes
+  row_added few bytes long name shape p n =
+      row_of_added e x r k g c d few bytes
       (added_then (InGrid (65 * r) g (k + 1) (k + 1)) (AtRing (65 * r + 64) g) e m x c d p q) shape y name
-      (λ z i j h. last-alone q i j h ∙ ap (λ (v : List ℕ). get_or v (65 * i + j) 0) (told_same z p.told))
+      (λ z i j h. last_alone q i j h ∙ ap (λ (v : List ℕ). get_or v (65 * i + j) 0) (told_same z p.told))
     where
       q : Added (AtRing (65 * r + 64) g) m x d
       q = ring-of-name (65 * r + 64) y g m x d long name n

@@ -1,6 +1,6 @@
 -- Bits added to the bytes of a buffer: which ones, and what adding them leaves.
 use Rattle.std.specs.Prelude.{◌≡◌, ◌≢◌, ◌⊎◌, Bool, List, [], ℕ, ◌+◌, ◌*◌, ◌<◌, get_or, length}
-use Rattle.table.specs.Constants.{most-names, row-names}
+use Rattle.table.specs.Constants.{most_names, row_names}
 use Rattle.rules.specs.Label.{Label, own, forked, unknown, several}
 use Rattle.grid.specs.Rows.{Has, Rel, Bits}
 use Rattle.grid.specs.Grid.{In}
@@ -31,7 +31,7 @@ AtRing i g p j = (p ≡ i) × (j ≡ 0) × HasRing g
 
 -- the ring name x, and not 16, in byte i
 abbrev pub AtName : ℕ → ℕ → Rel
-AtName i x p j = (p ≡ i) × (j ≡ 0) × (x < most-names)
+AtName i x p j = (p ≡ i) × (j ≡ 0) × (x < most_names)
 
 -- the bits of each of F below n
 abbrev pub Below : (ℕ → Rel) → ℕ → Rel
@@ -39,7 +39,7 @@ Below F n p j = (b : ℕ) × (b < n) × F b p j
 
 -- the pairs from a to the names below n, with the masks of row, in the row that begins at start
 abbrev pub InRow : ℕ → ℕ → List ℕ → ℕ → Rel
-InRow start a row n = Below (λ b. AtCell (start + row-names * a + b) a b (get_or row b 0)) n
+InRow start a row n = Below (λ b. AtCell (start + row_names * a + b) a b (get_or row b 0)) n
 
 -- the pairs from the names below m to those below n in the grid g, in the row that begins at start
 abbrev pub InGrid : ℕ → List (List ℕ) → ℕ → ℕ → Rel

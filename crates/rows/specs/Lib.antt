@@ -2,4 +2,4 @@
 pub mod Bytes
 pub mod Model
 pub mod Added
-pub mod laws
+pub mod Laws

@@ -1,14 +1,14 @@
 -- The rows of a model buffer, and what adding a closed grid to a row and clearing rows leave.
 use Rattle.std.specs.Prelude.{◌≡◌, ◌≢◌, ◌⊎◌, Bool, true, false, ◌||◌, List, [], ◌∷◌, ℕ, ◌+◌, ◌*◌, ◌<◌, ◌≤◌, get_or, length}
-use Rattle.table.specs.Constants.{row-cells, row-bytes}
+use Rattle.table.specs.Constants.{row_cells, row_bytes}
 use Rattle.rules.specs.Label.{Label, several, cut}
 use Rattle.grid.specs.Grid.{Pair, LowestRing}
 use Rattle.rows.specs.Bytes.{RowBits, RingByte}
 
 -- the row of routine r: each cell has labels alone, and the last byte is 0 or 1
 pub record ShapedRow (rows : List ℕ) (r : ℕ) : Type 0 where
-  pub cells : (i : ℕ) → i < row-cells → get_or rows (row-bytes * r + i) 0 < 8
-  pub last : get_or rows (row-bytes * r + row-cells) 0 ≤ 1
+  pub cells : (i : ℕ) → i < row_cells → get_or rows (row_bytes * r + i) 0 < 8
+  pub last : get_or rows (row_bytes * r + row_cells) 0 ≤ 1
 
 -- the rows of the routines below n
 abbrev pub Shaped : ℕ → List ℕ → Type 0
@@ -36,18 +36,18 @@ Moves true before after = total before < total after
 -- cells and its last byte changed, and x is the lowest ring name of the grid, or 16
 pub record RowAdded (before after : List ℕ) (r k : ℕ) (g : List (List ℕ)) (cells last : Bool) (x : ℕ) : Type 0 where
   pub long : length after ≡ length before
-  pub outside : (i : ℕ) → (i < row-bytes * r) ⊎ (row-bytes * r + row-bytes ≤ i) → get_or after i 0 ≡ get_or before i 0
+  pub outside : (i : ℕ) → (i < row_bytes * r) ⊎ (row_bytes * r + row_bytes ≤ i) → get_or after i 0 ≡ get_or before i 0
   pub only : (q a b : ℕ) (l : Label)
       → RowBits after q a b l → RowBits before q a b l ⊎ ((q ≡ r) × GridRow k g a b l)
   pub old : (q a b : ℕ) (l : Label) → RowBits before q a b l → RowBits after q a b l
   pub new : (a b : ℕ) (l : Label) → GridRow k g a b l → RowBits after r a b l
-  pub ring-only : (q : ℕ) → RingByte after q → RingByte before q ⊎ ((q ≡ r) × HasRing g)
-  pub ring-old : (q : ℕ) → RingByte before q → RingByte after q
-  pub ring-new : HasRing g → RingByte after r
+  pub ring_only : (q : ℕ) → RingByte after q → RingByte before q ⊎ ((q ≡ r) × HasRing g)
+  pub ring_old : (q : ℕ) → RingByte before q → RingByte after q
+  pub ring_new : HasRing g → RingByte after r
   pub shaped : (n : ℕ) → Shaped n before → Shaped n after
   pub told : Moves (cells || last) before after
-  pub same-cells : cells ≡ false → (q i : ℕ) → i < row-cells
-      → get_or after (row-bytes * q + i) 0 ≡ get_or before (row-bytes * q + i) 0
+  pub same_cells : cells ≡ false → (q i : ℕ) → i < row_cells
+      → get_or after (row_bytes * q + i) 0 ≡ get_or before (row_bytes * q + i) 0
   pub named : LowestRing g x
 
 -- after is before with the bytes from start to end zero

@@ -1,6 +1,6 @@
 // Rows of the model buffer: adding the row of a closed grid, and clearing rows.
 ghost use Rattle.std.specs.Prelude.{◌+◌, ◌*◌, ◌<◌, ◌≤◌, length};
-ghost use Rattle.table.specs.Constants.{most-names, most-params, row-cells, row-bytes};
+ghost use Rattle.table.specs.Constants.{most_names, most_params, row_cells, row_bytes};
 ghost use Rattle.grid.specs.Rows.{Bits};
 ghost use Rattle.rows.specs.Model.{ShapedRow, RowAdded, Cleared};
 ghost use Rattle.rows.specs.Added.{CellBit, AtByte, AtCell, AtName, InRow, InGrid, Added};
@@ -52,7 +52,7 @@ fn with_cell(model: &mut [u8], i: usize, a: usize, b: usize, m: u16) -> bool
 
 // Adds the pairs from a to the names 0 to k, with the masks of row, to the cells of the row that begins at start.
 fn with_cells(model: &mut [u8], start: usize, a: usize, row: [u16; MOST_NAMES], k: usize) -> bool
-    requires { (a ≤ most-params) × (k ≤ most-params) × (start + row-cells ≤ length model.old) }
+    requires { (a ≤ most_params) × (k ≤ most_params) × (start + row_cells ≤ length model.old) }
     ensures { Added (InRow start a row (k + 1)) model.old model.new result }
 {
     let mut changed = false;
@@ -65,7 +65,7 @@ fn with_cells(model: &mut [u8], start: usize, a: usize, row: [u16; MOST_NAMES], 
 
 // Adds the pairs of the names 0 to k to the cells of the row that begins at start.
 fn with_pairs(model: &mut [u8], start: usize, g: &Grid, k: usize) -> bool
-    requires { (k ≤ most-params) × (start + row-cells ≤ length model.old) }
+    requires { (k ≤ most_params) × (start + row_cells ≤ length model.old) }
     ensures { Added (InGrid start g.now (k + 1) (k + 1)) model.old model.new result }
 {
     let mut changed = false;
@@ -79,7 +79,7 @@ fn with_pairs(model: &mut [u8], start: usize, g: &Grid, k: usize) -> bool
 
 // Sets byte i if x is a ring name, and not MOST_NAMES.
 fn with_ring(model: &mut [u8], i: usize, x: usize) -> bool
-    requires { (i < length model.old) × (x ≤ most-names) }
+    requires { (i < length model.old) × (x ≤ most_names) }
     ensures { Added (AtName i x) model.old model.new result }
 {
     if x == MOST_NAMES {
@@ -99,7 +99,7 @@ pub struct Change {
 
 // Adds the row that the closed grid g gives a routine of k parameters to row r.
 pub fn with_row(model: &mut [u8], r: usize, k: usize, g: Grid) -> Change
-    requires { (k ≤ most-params) × (row-bytes * r + row-bytes ≤ length model.old) × ShapedRow model.old r }
+    requires { (k ≤ most_params) × (row_bytes * r + row_bytes ≤ length model.old) × ShapedRow model.old r }
     ensures { RowAdded model.old model.new r k g result.cells result.last result.name }
 {
     let start = ROW_BYTES * r;

@@ -5,7 +5,7 @@ use Rattle.std.proofs.Math.Option.{some}
 use Rattle.table.specs.Program.{Code, end, new, lock, fork, choice, call, mirror, Program, params, body}
 use Rattle.table.specs.WellFormed.{In}
 use Rattle.rules.specs.Label.{Label, combine, cut, placed}
-use Rattle.rules.specs.Model.{Kept, renamed, Place, atHead, naming, underLock, underFork}
+use Rattle.rules.specs.Model.{Kept, renamed, Place, at_head, naming, under_lock, under_fork}
 
 -- a family of labelled pairs for each routine
 abbrev pub Pairs : Type 1
@@ -17,8 +17,8 @@ RecordedFrom R end w a b l = ⊥
 RecordedFrom R (new x c) w a b l = RecordedFrom R c (naming x x w) a b l
 RecordedFrom R (lock x c d) w a b l =
     ((¬ In (w.roots x) w.nest) × (w.holder ≡ some a) × (b ≡ w.roots x) × (l ≡ w.thread))
-    ⊎ (RecordedFrom R c (underLock (w.roots x) w) a b l ⊎ RecordedFrom R d w a b l)
-RecordedFrom R (fork i c d) w a b l = RecordedFrom R c (underFork i w) a b l ⊎ RecordedFrom R d w a b l
+    ⊎ (RecordedFrom R c (under_lock (w.roots x) w) a b l ⊎ RecordedFrom R d w a b l)
+RecordedFrom R (fork i c d) w a b l = RecordedFrom R c (under_fork i w) a b l ⊎ RecordedFrom R d w a b l
 RecordedFrom R (choice u v c) w a b l =
     RecordedFrom R u w a b l ⊎ (RecordedFrom R v w a b l ⊎ RecordedFrom R c w a b l)
 RecordedFrom R (call r xs c) w a b l =
@@ -41,7 +41,7 @@ pub data Closed (G : ℕ → ℕ → Label → Type 0) : ℕ → ℕ → Label �
 
 -- the kept pairs that a code records as a body, from the rows R
 abbrev pub KeptFrom : Pairs → Code → ℕ → ℕ → Label → Type 0
-KeptFrom R c a b l = RecordedFrom R c atHead a b l × Kept a b l
+KeptFrom R c a b l = RecordedFrom R c at_head a b l × Kept a b l
 
 -- the pairs worked out in the body of routine r from the rows R
 abbrev pub Derived : Program → Pairs → Pairs

@@ -5,4 +5,4 @@ pub mod Model
 pub mod Derived
 pub mod Verdict
 pub mod Share
-pub mod laws
+pub mod Laws

@@ -26,8 +26,8 @@ pub record Place : Type 0 where
   pub nest : List ℕ
 
 -- the head of a body: the running thread, each name its own root, name 0 as the holder, and an empty nest
-abbrev pub atHead : Place
-atHead = record { thread = own; roots = λ x. x; holder = some 0; nest = [] }
+abbrev pub at_head : Place
+at_head = record { thread = own; roots = λ x. x; holder = some 0; nest = [] }
 
 -- f with z for x: what roots, and in a run locks, are once a NEW or MIRROR has given the name x
 abbrev pub bind : ℕ → ℕ → (ℕ → ℕ) → ℕ → ℕ
@@ -42,43 +42,43 @@ abbrev pub nested : ℕ → Place → Place
 nested z w = record { thread = w.thread; roots = w.roots; holder = some z; nest = z ∷ w.nest }
 
 -- the head of the block of a LOCK, z its name's root: the place outside where z is in its nest, else z is nested
-abbrev pub underLock : ℕ → Place → Place
-underLock z w = cond (in? z w.nest) w (nested z w)
+abbrev pub under_lock : ℕ → Place → Place
+under_lock z w = cond (in? z w.nest) w (nested z w)
 
 -- the head of the block of FORK i: that thread, with nothing as its holder and an empty nest, whatever is held outside
-abbrev pub underFork : ℕ → Place → Place
-underFork i w = record { thread = forked i; roots = w.roots; holder = none; nest = [] }
+abbrev pub under_fork : ℕ → Place → Place
+under_fork i w = record { thread = forked i; roots = w.roots; holder = none; nest = [] }
 
 -- Recorded P c w a b l: the code c, at the place w, records the pair (a, b) labelled l. A LOCK on a name whose root is
--- in the nest records nothing itself (at-lock). Model P r a b l: the pair is among those worked out in the body of
+-- in the nest records nothing itself (at_lock). Model P r a b l: the pair is among those worked out in the body of
 -- routine r.
 mutual
   pub data Recorded (P : Program) : Code → Place → ℕ → ℕ → Label → Type 0 where
-    in-new : {x : ℕ} {c : Code} {w : Place} {a b : ℕ} {l : Label}
+    in_new : {x : ℕ} {c : Code} {w : Place} {a b : ℕ} {l : Label}
         → Recorded P c (naming x x w) a b l
         → Recorded P (new x c) w a b l
-    at-lock : {x : ℕ} {c d : Code} {w : Place} {a b : ℕ} {l : Label}
+    at_lock : {x : ℕ} {c d : Code} {w : Place} {a b : ℕ} {l : Label}
         → ¬ In (w.roots x) w.nest → w.holder ≡ some a → b ≡ w.roots x → l ≡ w.thread
         → Recorded P (lock x c d) w a b l
-    in-lock : {x : ℕ} {c d : Code} {w : Place} {a b : ℕ} {l : Label}
-        → Recorded P c (underLock (w.roots x) w) a b l
+    in_lock : {x : ℕ} {c d : Code} {w : Place} {a b : ℕ} {l : Label}
+        → Recorded P c (under_lock (w.roots x) w) a b l
         → Recorded P (lock x c d) w a b l
-    after-lock : {x : ℕ} {c d : Code} {w : Place} {a b : ℕ} {l : Label}
+    after_lock : {x : ℕ} {c d : Code} {w : Place} {a b : ℕ} {l : Label}
         → Recorded P d w a b l
         → Recorded P (lock x c d) w a b l
-    in-fork : {i : ℕ} {c d : Code} {w : Place} {a b : ℕ} {l : Label}
-        → Recorded P c (underFork i w) a b l
+    in_fork : {i : ℕ} {c d : Code} {w : Place} {a b : ℕ} {l : Label}
+        → Recorded P c (under_fork i w) a b l
         → Recorded P (fork i c d) w a b l
-    after-fork : {i : ℕ} {c d : Code} {w : Place} {a b : ℕ} {l : Label}
+    after_fork : {i : ℕ} {c d : Code} {w : Place} {a b : ℕ} {l : Label}
         → Recorded P d w a b l
         → Recorded P (fork i c d) w a b l
-    in-first : {u v c : Code} {w : Place} {a b : ℕ} {l : Label}
+    in_first : {u v c : Code} {w : Place} {a b : ℕ} {l : Label}
         → Recorded P u w a b l
         → Recorded P (choice u v c) w a b l
-    in-second : {u v c : Code} {w : Place} {a b : ℕ} {l : Label}
+    in_second : {u v c : Code} {w : Place} {a b : ℕ} {l : Label}
         → Recorded P v w a b l
         → Recorded P (choice u v c) w a b l
-    after-choice : {u v c : Code} {w : Place} {a b : ℕ} {l : Label}
+    after_choice : {u v c : Code} {w : Place} {a b : ℕ} {l : Label}
         → Recorded P c w a b l
         → Recorded P (choice u v c) w a b l
     at_call : {r : ℕ} {xs : List ℕ} {c : Code} {w : Place} {a b a₀ b₀ : ℕ} {l m : Label}
@@ -89,12 +89,12 @@ mutual
     after_call : {r : ℕ} {xs : List ℕ} {c : Code} {w : Place} {a b : ℕ} {l : Label}
         → Recorded P c w a b l
         → Recorded P (call r xs c) w a b l
-    in-mirror : {x y : ℕ} {c : Code} {w : Place} {a b : ℕ} {l : Label}
+    in_mirror : {x y : ℕ} {c : Code} {w : Place} {a b : ℕ} {l : Label}
         → Recorded P c (naming x (w.roots y) w) a b l
         → Recorded P (mirror x y c) w a b l
 
   pub data Model (P : Program) : ℕ → ℕ → ℕ → Label → Type 0 where
-    records : {r a b : ℕ} {l : Label} → Recorded P (body P r) atHead a b l → Kept a b l → Model P r a b l
+    records : {r a b : ℕ} {l : Label} → Recorded P (body P r) at_head a b l → Kept a b l → Model P r a b l
     follows : {r a b c : ℕ} {l m n : Label}
         → Model P r a b l → Model P r b c m → n ≡ combine l m → Kept a c n
         → Model P r a c n

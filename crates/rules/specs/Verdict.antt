@@ -26,5 +26,5 @@ Clear P = (r x : ℕ) → Reached P r → Ring P r x → ⊥
 pub record RingAt (P : Program) (r x : ℕ) : Type 0 where
   pub reached : Reached P r
   pub ring : Ring P r x
-  pub lowest-routine : (q y : ℕ) → Reached P q → Ring P q y → r ≤ q
-  pub lowest-name : (y : ℕ) → Ring P r y → x ≤ y
+  pub lowest_routine : (q y : ℕ) → Reached P q → Ring P q y → r ≤ q
+  pub lowest_name : (y : ℕ) → Ring P r y → x ≤ y

@@ -10,11 +10,11 @@ use Rattle.table.specs.Program.{Code, end, new, lock, fork, choice, call, mirror
 use Rattle.table.specs.Program.{body, names}
 use Rattle.table.specs.WellFormed.{In, NoDup, Scoped, Fresh, onces, WellFormed}
 use Rattle.rules.specs.Verdict.{Clear}
-use Rattle.rules.specs.laws.Judge.{is-clear}
+use Rattle.rules.specs.Laws.Judge.{is_clear}
 use Rattle.run.specs.Decide.{in?, some?, elsewhere?}
 use Rattle.run.specs.Run.{Thread, ended, at, start, first, second, step, Turn, run, locks}
 use Rattle.run.specs.Run.{taken?, wants, Waits, Circle, Safe}
-use Rattle.run.specs.laws.Safety.{clear-is-safe}
+use Rattle.run.specs.Laws.Safety.{clear_is_safe}
 
 -- What is seen of a thread: it is over, or it is at the head of a code, with the locks of the names 1, 2 and 3 (0 where
 -- one is not in scope), the locks it holds, the last taken first, and how many blocks and calls are open.
@@ -65,14 +65,14 @@ once-held = refl
 abbrev forking : Program
 forking = routine 0 (new 1 (new 2 (call 1 (2 ∷ []) end))) ∷ routine 1 (lock 1 (fork 1 end end) end) ∷ []
 
-fork-holds-nothing :
+fork_holds_nothing :
     view forking (go 0 ∷ go 0 ∷ go 0 ∷ go 0 ∷ go 0 ∷ [])
     ≡ record {
       threads = here end (1 ∷ 0 ∷ 0 ∷ []) (1 ∷ []) 2 ∷ here end (1 ∷ 0 ∷ 0 ∷ []) [] 0 ∷ [];
       made = 2;
     }
 unfolding step taken? elsewhere? some? in? ℕ_discrete
-fork-holds-nothing = refl
+fork_holds_nothing = refl
 
 fork_ends :
     view forking (go 0 ∷ go 0 ∷ go 0 ∷ go 0 ∷ go 0 ∷ go 1 ∷ [])
@@ -111,15 +111,15 @@ unfolding step taken? elsewhere? some? in? ℕ_discrete
 held-by-both = refl
 
 -- The same with another lock between, while a fork waits for the first: the thread goes on, and holds the first twice.
-abbrev mirroring-around : Program
-mirroring-around =
+abbrev mirroring_around : Program
+mirroring_around =
     routine 0 (new 1 (new 2 (mirror 3 1
     (fork 1 (lock 1 (lock 2 end end) end)
     (lock 1 (lock 2 (lock 3 end end) end) end)))))
     ∷ []
 
 held-around :
-    view mirroring-around (go 0 ∷ go 0 ∷ go 0 ∷ go 0 ∷ go 0 ∷ go 0 ∷ go 1 ∷ go 0 ∷ [])
+    view mirroring_around (go 0 ∷ go 0 ∷ go 0 ∷ go 0 ∷ go 0 ∷ go 0 ∷ go 1 ∷ go 0 ∷ [])
     ≡ record {
       threads =
           here end (0 ∷ 1 ∷ 0 ∷ []) (0 ∷ 1 ∷ 0 ∷ []) 3
@@ -132,20 +132,20 @@ held-around = refl
 
 -- Inside a LOCK block, a called routine and an alternative: the parameter's lock has a second name there, which is out
 -- of scope after the alternative.
-abbrev mirroring-inside : Program
-mirroring-inside =
+abbrev mirroring_inside : Program
+mirroring_inside =
     routine 0 (new 1 (new 2 (lock 1 (call 1 (2 ∷ []) end) end)))
     ∷ routine 1 (choice (mirror 2 1 (lock 2 end end)) end end)
     ∷ []
 
 mirror-inside :
-    view mirroring-inside (go 0 ∷ go 0 ∷ go 0 ∷ go 0 ∷ go 0 ∷ go 0 ∷ go 0 ∷ [])
+    view mirroring_inside (go 0 ∷ go 0 ∷ go 0 ∷ go 0 ∷ go 0 ∷ go 0 ∷ go 0 ∷ [])
     ≡ record { threads = here end (1 ∷ 1 ∷ 0 ∷ []) (1 ∷ 0 ∷ []) 4 ∷ []; made = 2 }
 unfolding step taken? elsewhere? some? in? ℕ_discrete
 mirror-inside = refl
 
 mirror-closed :
-    view mirroring-inside (go 0 ∷ go 0 ∷ go 0 ∷ go 0 ∷ go 0 ∷ go 0 ∷ go 0 ∷ go 0 ∷ go 0 ∷ [])
+    view mirroring_inside (go 0 ∷ go 0 ∷ go 0 ∷ go 0 ∷ go 0 ∷ go 0 ∷ go 0 ∷ go 0 ∷ go 0 ∷ [])
     ≡ record { threads = here end (1 ∷ 0 ∷ 0 ∷ []) (0 ∷ []) 2 ∷ []; made = 2 }
 unfolding step taken? elsewhere? some? in? ℕ_discrete
 mirror-closed = refl
@@ -160,24 +160,24 @@ after-other :
 unfolding step taken? elsewhere? some? in? ℕ_discrete
 after-other = refl
 
-after-second : view choosing (other 0 ∷ go 0 ∷ []) ≡ view choosing (go 0 ∷ go 0 ∷ [])
+after_second : view choosing (other 0 ∷ go 0 ∷ []) ≡ view choosing (go 0 ∷ go 0 ∷ [])
 unfolding step taken? elsewhere? some? in? ℕ_discrete
-after-second = refl
+after_second = refl
 
 -- Table b: a fork nests the locks of the names 1 and 2, and the main thread those of 2 and 1.
-abbrev table-b : Program
-table-b = routine 0 (new 1 (new 2 (fork 1 (lock 1 (lock 2 end end) end) (lock 2 (lock 1 end end) end)))) ∷ []
+abbrev table_b : Program
+table_b = routine 0 (new 1 (new 2 (fork 1 (lock 1 (lock 2 end end) end) (lock 2 (lock 1 end end) end)))) ∷ []
 
-turns-b : List Turn
-turns-b = go 0 ∷ go 0 ∷ go 0 ∷ go 0 ∷ go 1 ∷ []
+turns_b : List Turn
+turns_b = go 0 ∷ go 0 ∷ go 0 ∷ go 0 ∷ go 1 ∷ []
 
 differ : ◌≡◌ {A = ℕ} 0 1 → ⊥
 differ e = omega arith
 
 -- the main thread has taken the lock 1 and the fork the lock 0, and they wait for each other
-circle-b : Circle (run table-b (start table-b) turns-b)
-unfolding turns-b step taken? elsewhere? some? in? ℕ_discrete
-circle-b = record {
+circle_b : Circle (run table_b (start table_b) turns_b)
+unfolding turns_b step taken? elsewhere? some? in? ℕ_discrete
+circle_b = record {
   one = 0;
   two = 1;
   more = [];
@@ -185,12 +185,12 @@ circle-b = record {
   waits = ((0, wants refl, (λ e. differ (sym e)), inl refl), (1, wants refl, differ, inl refl));
 }
 
-formed-b : WellFormed table-b
-formed-b = record { main = refl; scoped = scoped; fresh = fresh; once = once; some-routine = omega arith }
+formed_b : WellFormed table_b
+formed_b = record { main = refl; scoped = scoped; fresh = fresh; once = once; some_routine = omega arith }
   where
     scoped :
-        (r : ℕ) → r < length table-b
-        → Scoped table-b (params table-b r) (names (params table-b r)) (body table-b r)
+        (r : ℕ) → r < length table_b
+        → Scoped table_b (params table_b r) (names (params table_b r)) (body table_b r)
     scoped zero lt = (
       omega arith,
       (
@@ -200,14 +200,14 @@ formed-b = record { main = refl; scoped = scoped; fresh = fresh; once = once; so
     )
     scoped (suc r) lt = absurd (omega arith)
 
-    fresh : (r : ℕ) → r < length table-b → Fresh (names (params table-b r)) (body table-b r)
+    fresh : (r : ℕ) → r < length table_b → Fresh (names (params table_b r)) (body table_b r)
     fresh zero lt = (
       (λ i. i),
       ((λ i. elim i [ inl e ↦ omega arith | inr x ↦ x ]), (((tt, tt), tt), ((tt, tt), tt))),
     )
     fresh (suc r) lt = absurd (omega arith)
 
-    once : (r : ℕ) → r < length table-b → NoDup (onces (body table-b r))
+    once : (r : ℕ) → r < length table_b → NoDup (onces (body table_b r))
     once zero lt = (
       (λ i. elim i [
         | inl e ↦ (let z : ◌≡◌ {A = ℕ} 1 2 = cc in omega arith)
@@ -218,8 +218,8 @@ formed-b = record { main = refl; scoped = scoped; fresh = fresh; once = once; so
     once (suc r) lt = absurd (omega arith)
 
 -- so table b is not clear
-unclear-b : Clear table-b → ⊥
-unclear-b clear = (clear-is-safe table-b formed-b clear turns-b).no-circle circle-b
+unclear_b : Clear table_b → ⊥
+unclear_b clear = (clear_is_safe table_b formed_b clear turns_b).no_circle circle_b
 
 -- Table g, the philosophers. Routine 1 eats, taking the lock of its name 2 and then that of 1; or it makes a lock,
 -- forks a philosopher who takes the lock of name 1 and then the new one, and calls itself with the new lock as name 1.
@@ -229,8 +229,8 @@ eating = lock 2 (lock 1 end end) end
 abbrev philosopher : Code
 philosopher = lock 1 (lock 3 end end) end
 
-abbrev table-g : Program
-table-g =
+abbrev table_g : Program
+table_g =
     routine 0 (new 1 (call 1 (1 ∷ 1 ∷ []) end))
     ∷ routine 2 (choice eating (new 3 (fork 1 philosopher (call 1 (3 ∷ 2 ∷ []) end))) end)
     ∷ []
@@ -240,7 +240,7 @@ laid : List Turn
 laid = go 0 ∷ go 0 ∷ other 0 ∷ go 0 ∷ go 0 ∷ go 0 ∷ other 0 ∷ go 0 ∷ go 0 ∷ go 1 ∷ go 2 ∷ []
 
 laid-state :
-    view table-g laid
+    view table_g laid
     ≡ record {
       threads =
           here (call 1 (3 ∷ 2 ∷ []) end) (1 ∷ 0 ∷ 2 ∷ []) [] 4
@@ -253,9 +253,9 @@ unfolding laid step taken? elsewhere? some? in? ℕ_discrete
 laid-state = refl
 
 -- thread 1 now waits for thread 2, since its name 3 stands for the lock 1
-laid-waits : Waits (run table-g (start table-g) laid) 1 2
+laid_waits : Waits (run table_g (start table_g) laid) 1 2
 unfolding laid step taken? elsewhere? some? in? ℕ_discrete
-laid-waits = (1, wants refl, (λ e. omega arith), inl refl)
+laid_waits = (1, wants refl, (λ e. omega arith), inl refl)
 
 -- Then thread 1 has a turn, which is no step, and so has thread 5, which was never started. The main thread calls
 -- routine 1 once more, chooses to eat, and waits for the lock 0. Thread 2 takes its second lock, gives both back and
@@ -264,7 +264,7 @@ eaten : List Turn
 eaten = go 1 ∷ go 5 ∷ go 0 ∷ go 0 ∷ go 0 ∷ go 2 ∷ go 2 ∷ go 2 ∷ go 2 ∷ go 1 ∷ []
 
 eaten-state :
-    view table-g (laid ++ eaten)
+    view table_g (laid ++ eaten)
     ≡ record {
       threads =
           here eating (2 ∷ 0 ∷ 0 ∷ []) [] 6
@@ -276,8 +276,8 @@ eaten-state :
 unfolding laid eaten step taken? elsewhere? some? in? ℕ_discrete
 eaten-state = refl
 
-formed-g : WellFormed table-g
-formed-g = record { main = refl; scoped = scoped; fresh = fresh; once = once; some-routine = omega arith }
+formed_g : WellFormed table_g
+formed_g = record { main = refl; scoped = scoped; fresh = fresh; once = once; some_routine = omega arith }
   where
     ones : (x : ℕ) → In x (1 ∷ 1 ∷ []) → In x (1 ∷ [])
     ones x (inl e) = inl e
@@ -288,8 +288,8 @@ formed-g = record { main = refl; scoped = scoped; fresh = fresh; once = once; so
     others x (inr (inl e)) = inr (inl e)
 
     scoped :
-        (r : ℕ) → r < length table-g
-        → Scoped table-g (params table-g r) (names (params table-g r)) (body table-g r)
+        (r : ℕ) → r < length table_g
+        → Scoped table_g (params table_g r) (names (params table_g r)) (body table_g r)
     scoped zero lt = (omega arith, (omega arith, refl, ones, tt))
     scoped (suc zero) lt = (
       (inl refl, (inr (inl refl), tt, tt), tt),
@@ -298,7 +298,7 @@ formed-g = record { main = refl; scoped = scoped; fresh = fresh; once = once; so
     )
     scoped (suc (suc r)) lt = absurd (omega arith)
 
-    fresh : (r : ℕ) → r < length table-g → Fresh (names (params table-g r)) (body table-g r)
+    fresh : (r : ℕ) → r < length table_g → Fresh (names (params table_g r)) (body table_g r)
     fresh zero lt = ((λ i. i), tt)
     fresh (suc zero) lt = (
       ((tt, tt), tt),
@@ -310,18 +310,18 @@ formed-g = record { main = refl; scoped = scoped; fresh = fresh; once = once; so
     )
     fresh (suc (suc r)) lt = absurd (omega arith)
 
-    once : (r : ℕ) → r < length table-g → NoDup (onces (body table-g r))
+    once : (r : ℕ) → r < length table_g → NoDup (onces (body table_g r))
     once zero lt = ((λ x. x), tt)
     once (suc zero) lt =
         ((λ i. elim i [ inl e ↦ (let z : ◌≡◌ {A = ℕ} 0 1 = cc in omega arith) | inr x ↦ x ]), ((λ x. x), tt))
     once (suc (suc r)) lt = absurd (omega arith)
 
-clear-g : Clear table-g
-clear-g = is-clear table-g tt
+clear_g : Clear table_g
+clear_g = is_clear table_g tt
 
 -- so table g is safe in every run
-safe-g : (turns : List Turn) → Safe (run table-g (start table-g) turns)
-safe-g = clear-is-safe table-g formed-g clear-g
+safe_g : (turns : List Turn) → Safe (run table_g (start table_g) turns)
+safe_g = clear_is_safe table_g formed_g clear_g
 
 -- A CALL of routine 2 and a CHOICE, inside a LOCK block: the callee and the alternative hold its lock, and after the
 -- callee's END the names are the caller's again.
@@ -360,12 +360,12 @@ three =
     (lock 3 (lock 1 end end) end))))))
     ∷ []
 
-turns-three : List Turn
-turns-three = go 0 ∷ go 0 ∷ go 0 ∷ go 0 ∷ go 0 ∷ go 0 ∷ go 1 ∷ go 2 ∷ []
+turns_three : List Turn
+turns_three = go 0 ∷ go 0 ∷ go 0 ∷ go 0 ∷ go 0 ∷ go 0 ∷ go 1 ∷ go 2 ∷ []
 
-circle-three : Circle (run three (start three) turns-three)
-unfolding turns-three step taken? elsewhere? some? in? ℕ_discrete
-circle-three = record {
+circle_three : Circle (run three (start three) turns_three)
+unfolding turns_three step taken? elsewhere? some? in? ℕ_discrete
+circle_three = record {
   one = 0;
   two = 1;
   more = 2 ∷ [];
@@ -381,19 +381,19 @@ circle-three = record {
 
 -- Two threads in a circle by way of mirrors: 3 is a mirror of 1 and 4 one of 3, a fork nests 3 and 2, and the main
 -- thread 2 and 4. The fork has taken the lock 0 and the main thread the lock 1, and each wants the other's.
-abbrev mirrors-crossed : Program
-mirrors-crossed =
+abbrev mirrors_crossed : Program
+mirrors_crossed =
     routine 0 (new 1 (new 2 (mirror 3 1 (mirror 4 3
     (fork 1 (lock 3 (lock 2 end end) end)
     (lock 2 (lock 4 end end) end))))))
     ∷ []
 
-turns-crossed : List Turn
-turns-crossed = go 0 ∷ go 0 ∷ go 0 ∷ go 0 ∷ go 0 ∷ go 0 ∷ go 1 ∷ []
+turns_crossed : List Turn
+turns_crossed = go 0 ∷ go 0 ∷ go 0 ∷ go 0 ∷ go 0 ∷ go 0 ∷ go 1 ∷ []
 
-circle-crossed : Circle (run mirrors-crossed (start mirrors-crossed) turns-crossed)
-unfolding turns-crossed step taken? elsewhere? some? in? ℕ_discrete
-circle-crossed = record {
+circle_crossed : Circle (run mirrors_crossed (start mirrors_crossed) turns_crossed)
+unfolding turns_crossed step taken? elsewhere? some? in? ℕ_discrete
+circle_crossed = record {
   one = 0;
   two = 1;
   more = [];
@@ -401,12 +401,12 @@ circle-crossed = record {
   waits = ((0, wants refl, (λ e. differ (sym e)), inl refl), (1, wants refl, differ, inl refl));
 }
 
-formed-crossed : WellFormed mirrors-crossed
-formed-crossed = record { main = refl; scoped = scoped; fresh = fresh; once = once; some-routine = omega arith }
+formed_crossed : WellFormed mirrors_crossed
+formed_crossed = record { main = refl; scoped = scoped; fresh = fresh; once = once; some_routine = omega arith }
   where
     scoped :
-        (r : ℕ) → r < length mirrors-crossed
-        → Scoped mirrors-crossed (params mirrors-crossed r) (names (params mirrors-crossed r)) (body mirrors-crossed r)
+        (r : ℕ) → r < length mirrors_crossed
+        → Scoped mirrors_crossed (params mirrors_crossed r) (names (params mirrors_crossed r)) (body mirrors_crossed r)
     scoped zero lt = (
       omega arith,
       (
@@ -428,32 +428,32 @@ formed-crossed = record { main = refl; scoped = scoped; fresh = fresh; once = on
     scoped (suc r) lt = absurd (omega arith)
 
     -- 2, 3 and 4 are not among the names below
-    not-one : (x : ℕ) → 1 < x → ¬ In x (1 ∷ [])
-    not-one x lt (inl e) = omega arith
+    not_one : (x : ℕ) → 1 < x → ¬ In x (1 ∷ [])
+    not_one x lt (inl e) = omega arith
 
-    not-two : (x : ℕ) → 2 < x → ¬ In x (2 ∷ 1 ∷ [])
-    not-two x lt (inl e) = omega arith
-    not-two x lt (inr i) = not-one x (omega arith) i
+    not_two : (x : ℕ) → 2 < x → ¬ In x (2 ∷ 1 ∷ [])
+    not_two x lt (inl e) = omega arith
+    not_two x lt (inr i) = not_one x (omega arith) i
 
     not_three : (x : ℕ) → 3 < x → ¬ In x (3 ∷ 2 ∷ 1 ∷ [])
     not_three x lt (inl e) = omega arith
-    not_three x lt (inr i) = not-two x (omega arith) i
+    not_three x lt (inr i) = not_two x (omega arith) i
 
-    fresh : (r : ℕ) → r < length mirrors-crossed → Fresh (names (params mirrors-crossed r)) (body mirrors-crossed r)
+    fresh : (r : ℕ) → r < length mirrors_crossed → Fresh (names (params mirrors_crossed r)) (body mirrors_crossed r)
     fresh zero lt = (
       (λ i. i),
       (
-        not-one 2 (omega arith),
-        (not-two 3 (omega arith), (not_three 4 (omega arith), (((tt, tt), tt), ((tt, tt), tt)))),
+        not_one 2 (omega arith),
+        (not_two 3 (omega arith), (not_three 4 (omega arith), (((tt, tt), tt), ((tt, tt), tt)))),
       ),
     )
     fresh (suc r) lt = absurd (omega arith)
 
-    once : (r : ℕ) → r < length mirrors-crossed → NoDup (onces (body mirrors-crossed r))
-    once zero lt = formed-b.once 0 (omega arith)
+    once : (r : ℕ) → r < length mirrors_crossed → NoDup (onces (body mirrors_crossed r))
+    once zero lt = formed_b.once 0 (omega arith)
     once (suc r) lt = absurd (omega arith)
 
 -- so this table is not clear
-unclear-crossed : Clear mirrors-crossed → ⊥
-unclear-crossed clear =
-    (clear-is-safe mirrors-crossed formed-crossed clear turns-crossed).no-circle circle-crossed
+unclear_crossed : Clear mirrors_crossed → ⊥
+unclear_crossed clear =
+    (clear_is_safe mirrors_crossed formed_crossed clear turns_crossed).no_circle circle_crossed

@@ -122,10 +122,10 @@ pub record Circle (s : State) : Type 0 where
 
 -- thread t can take its next step: it has not ended, and there is no thread that it waits for
 pub record CanStep (s : State) (t : ℕ) : Type 0 where
-  pub not-ended : thread s t ≢ ended
+  pub not_ended : thread s t ≢ ended
   pub free : (u : ℕ) → ¬ Waits s t u
 
 -- the state is safe: it has no circle of waiting threads, and all threads have ended or some thread can step
 pub record Safe (s : State) : Type 0 where
-  pub no-circle : ¬ Circle s
+  pub no_circle : ¬ Circle s
   pub goes_on : ((t : ℕ) → thread s t ≡ ended) ⊎ ((t : ℕ) × CanStep s t)

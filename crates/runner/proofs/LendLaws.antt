@@ -42,34 +42,34 @@ use borrow.Table.Elements.{at, cut_app, join_app, length_app}
 use borrow.Table.OneValue.{part_in}
 
 -- the reference to (b, o) under the name γ, at the value x
-abbrev pub ref-at : {X : Type 0} → (b o : ℕ) → GName → X → MutBor X
-ref-at b o γ x = record { ref_ptr = (b, o); ghost_name = γ; now = x }
+abbrev pub ref_at : {X : Type 0} → (b o : ℕ) → GName → X → MutBor X
+ref_at b o γ x = record { ref_ptr = (b, o); ghost_name = γ; now = x }
 
 -- the token of the lifetime α alone, whole
 abbrev pub token : ℕ → Fml
 token α = flft (α ∷ []) full_share
 
 -- at its end a `&mut [T]` says its last value
-pub obs-last : {M : Type 1} {𝓤 : Ura M} (𝓛 : Logic 𝓤) (R : RattleType) (γ : GName)
+pub obs_last : {M : Type 1} {𝓤 : Ura M} (𝓛 : Logic 𝓤) (R : RattleType) (γ : GName)
     (ys : List R.Denot) → ent 𝓤 (𝓛.A.obs γ ((coded_holeys R).code (heres R ys))) (sem 𝓛 (finally R γ ys))
-obs-last {𝓤 = 𝓤} 𝓛 R γ ys =
+obs_last {𝓤 = 𝓤} 𝓛 R γ ys =
     via 𝓤 _ (𝓛.names.obs-res γ ((coded_holeys R).code (heres R ys))) (res-finally 𝓛 (named 0) [] R γ ys)
 
 -- ---- slices: at (b, o) with the count n, lent for κ under the name γ
 module _ (R : RattleType) (ℓ : Lifetime) (b o n : ℕ) where
   -- what is owned at the list ys, and what the lender keeps
   abbrev pub Slice : Lft → GName → List R.Denot → Fml
-  Slice κ γ ys = (MutSlice ℓ κ R).own_val (ref-at b o γ ys) (slice_val (b, o) n ∷ [])
+  Slice κ γ ys = (MutSlice ℓ κ R).own_val (ref_at b o γ ys) (slice_val (b, o) n ∷ [])
 
   abbrev pub Slice-lender : Lft → GName → Fml
   Slice-lender κ γ = flent κ (Held R n b o γ)
 
   module _ {M : Type 1} {𝓤 : Ura M} (𝓛 : Logic 𝓤) where
     -- n elements are lent as a slice
-    lends-all : (κ : Lft) (ys : List R.Denot) → length ys ≡ n → Room R n → ent 𝓤 (sem 𝓛 (cells (mem R) ys b o))
+    lends_all : (κ : Lft) (ys : List R.Denot) → length ys ≡ n → Room R n → ent 𝓤 (sem 𝓛 (cells (mem R) ys b o))
         (mean 𝓛 (later (some (λ (γ : GName). ‵ (Slice κ γ ys) ⊛ ‵ (Slice-lender κ γ)))))
-    lends-all κ ys e room = subst (λ (k : ℕ). ent 𝓤 (sem 𝓛 (cells (mem R) ys b o)) (mean 𝓛 (later
-        (some (λ (γ : GName). ‵ ((MutSlice ℓ κ R).own_val (ref-at b o γ ys) (slice_val (b, o) k ∷ []))
+    lends_all κ ys e room = subst (λ (k : ℕ). ent 𝓤 (sem 𝓛 (cells (mem R) ys b o)) (mean 𝓛 (later
+        (some (λ (γ : GName). ‵ ((MutSlice ℓ κ R).own_val (ref_at b o γ ys) (slice_val (b, o) k ∷ []))
         ⊛ ‵ (flent κ (Held R k b o γ))))))) e (lends_slice 𝓛 R ℓ κ ys b o (subst (Room R) (sym e) room))
 
   -- what the holder of a slice keeps that has lent it again, for κ' under the name δ: its own is lent for κ, of which
@@ -93,7 +93,7 @@ module _ (R : RattleType) (ℓ : Lifetime) (b o n : ℕ) where
           qed 𝓛 (‵ (Slice κ γ ys) ∷ ‵ (flft κ q) ∷ []) ∵ updating ! $ fsplit ! $ drop ! $ fsplit ! $
           opens_slice ! tt R ys b o $ use1 𝓛 (‵ (cells (mem R) ys b o)) (whole_in 𝓛 R ys b o) $
           use1 𝓛 (later (some (λ (δ : GName). ‵ (Slice κ' δ ys) ⊛ ‵ (Slice-lender κ' δ))))
-          (lends-all 𝓛 κ' ys e room) $ await ! tt $ pick ! (λ δ. split ! $
+          (lends_all 𝓛 κ' ys e room) $ await ! tt $ pick ! (λ δ. split ! $
           -- [the new slice; the lender's part; the open borrow; the two halves of the name γ]
           at_once ! $ show ! (λ (δ : GName). mean 𝓛 (Lent-again δ)) δ $ frame ! $
           move ! (2 ∷ 3 ∷ []) $ fjoin ! $ move ! (2 ∷ 0 ∷ []) $ fjoin ! $ move ! (1 ∷ 0 ∷ []) $ fjoin ! $ done !)
@@ -110,7 +110,7 @@ module _ (R : RattleType) (ℓ : Lifetime) (b o n : ℕ) where
           -- [the elements; the open borrow, with the two halves of the name γ]
           move ! (1 ∷ []) $ fsplit ! $ move ! (1 ∷ []) $ fsplit ! $ move ! (3 ∷ 2 ∷ 0 ∷ 1 ∷ []) $
           closes_slice ! tt R ys zs l b o $ at_once ! $ fjoin ! $
-          pure_i ! (mut_slice_at R (ref-at b o γ zs) (slice_val (b, o) n ∷ [])) (tt, (tt, tt)) (
+          pure_i ! (mut_slice_at R (ref_at b o γ zs) (slice_val (b, o) n ∷ [])) (tt, (tt, tt)) (
             ap (λ (k : ℕ). slice_val (b, o) k ∷ []) (sym (l ∙ e)),
             subst (Room R) (sym (l ∙ e)) room,
           ) $ fjoin ! $ done !
@@ -121,10 +121,10 @@ Array-held X n l xs = part_at (Array X n) full_share xs l 0
 
 -- numbers: what the borrower owns, by `&mut` and by `&`, for the lifetime α alone; and what the lender keeps of each
 abbrev pub Array-mut : Lifetime → (n l α : ℕ) → GName → List ℕ → Fml
-Array-mut ℓ n l α γ xs = (MutRef ℓ (α ∷ []) (Array usize n)).own_val (ref-at l 0 γ xs) (vptr l 0 ∷ [])
+Array-mut ℓ n l α γ xs = (MutRef ℓ (α ∷ []) (Array usize n)).own_val (ref_at l 0 γ xs) (vptr l 0 ∷ [])
 
 abbrev pub Array-shr : Lifetime → (n l α : ℕ) → GName → List ℕ → Fml
-Array-shr ℓ n l α γ xs = (ShrRef ℓ (α ∷ []) (Array usize n)).own_val (ref-at l 0 γ xs) (vptr l 0 ∷ [])
+Array-shr ℓ n l α γ xs = (ShrRef ℓ (α ∷ []) (Array usize n)).own_val (ref_at l 0 γ xs) (vptr l 0 ∷ [])
 
 abbrev pub Array-lender : (n l α : ℕ) → GName → Fml
 Array-lender n l α γ = flent (α ∷ []) (SemTy.Body (mem (Array usize n)) l 0 γ)
@@ -162,17 +162,17 @@ module _ {M : Type 1} {𝓤 : Ura M} {𝓛 : Logic 𝓤} {K : Type 0} {Γ : List
 
   module _ {G : Goal 𝓤 H} where
     -- what is lent for a lifetime α that is made for it
-    lends-new : K → Soaks G → (i : Item 𝓤) (F : ℕ → GName → Item 𝓤)
+    lends_new : K → Soaks G → (i : Item 𝓤) (F : ℕ → GName → Item 𝓤)
         → ((α : ℕ) → ent 𝓤 (mean 𝓛 i) (mean 𝓛 (later (some (F α)))))
         → ((α : ℕ) (γ : GName) → Seq K 𝓛 (F α γ ∷ ‵ (token α) ∷ Γ) G) → Seq K 𝓛 (i ∷ Γ) G
-    lends-new t a i F lends k =
+    lends_new t a i F lends k =
         lft_new t a (λ α. move t (1 ∷ []) $ use1 𝓛 (later (some (F α))) (lends α) $ await t a $ pick t (k α))
 
     -- an array is lent by `&mut`
-    pub lends-array : K → Soaks G → (ℓ : Lifetime) (n l : ℕ) (xs : List ℕ)
+    pub lends_array : K → Soaks G → (ℓ : Lifetime) (n l : ℕ) (xs : List ℕ)
         → ((α : ℕ) (γ : GName) → Seq K 𝓛 (‵ (Array-mut ℓ n l α γ xs) ∷ ‵ (Array-lender n l α γ) ∷ ‵ (token α) ∷ Γ) G)
         → Seq K 𝓛 (‵ (Array-held usize n l xs) ∷ Γ) G
-    lends-array t a ℓ n l xs k = lends-new t a (‵ (Array-held usize n l xs))
+    lends_array t a ℓ n l xs k = lends_new t a (‵ (Array-held usize n l xs))
         (λ α γ. ‵ (Array-mut ℓ n l α γ xs) ⊛ ‵ (Array-lender n l α γ))
         (λ α. lends_ref 𝓛 (Array usize n) ℓ (α ∷ []) xs l 0) (λ α γ. split t $ k α γ)
 
@@ -187,14 +187,14 @@ module _ {M : Type 1} {𝓤 : Ura M} {𝓛 : Logic 𝓤} {K : Type 0} {Γ : List
     pub shares_array : K → Soaks G → (ℓ : Lifetime) (n l : ℕ) (xs : List ℕ)
         → ((α : ℕ) (γ : GName) → Seq K 𝓛 (‵ (Array-shr ℓ n l α γ xs) ∷ ‵ (Array-sharer n l α xs) ∷ ‵ (token α) ∷ Γ) G)
         → Seq K 𝓛 (‵ (Array-held usize n l xs) ∷ Γ) G
-    shares_array t a ℓ n l xs k = lends-new t a (‵ (Array-held usize n l xs))
+    shares_array t a ℓ n l xs k = lends_new t a (‵ (Array-held usize n l xs))
         (λ α γ. ‵ (Array-shr ℓ n l α γ xs) ⊛ ‵ (Array-sharer n l α xs))
         (λ α. lends_shr 𝓛 (Array usize n) ℓ (α ∷ []) full_share xs l 0) (λ α γ. split t $ k α γ)
 
     -- and had back, as room
-    pub frees-array : K → Soaks G → (n l α : ℕ) (xs : List ℕ)
+    pub frees_array : K → Soaks G → (n l α : ℕ) (xs : List ℕ)
         → Step K 𝓛 (‵ (froom (ty_array (ty_int w64) n) l 0) ∷ Γ) G (‵ (token α) ∷ ‵ (Array-sharer n l α xs) ∷ Γ) G
-    frees-array t a n l α xs = step (λ s. lft_end t a $ lent_back t a $
+    frees_array t a n l α xs = step (λ s. lft_end t a $ lent_back t a $
         use1 𝓛 (‵ (froom (ty_array (ty_int w64) n) l 0)) (part_room 𝓛 (Array usize n) xs l 0) $ s)
 
 -- ---- the first k elements of a local array, lent as a slice
@@ -206,18 +206,18 @@ module _ (X : RattleType) (ℓ : Lifetime) (n l k : ℕ) where
   module _ {M : Type 1} {𝓤 : Ura M} {𝓛 : Logic 𝓤} {K : Type 0} {Γ : List (Item 𝓤)}
       {G : Goal 𝓤 𝓛.H} where
     -- the array is taken apart: its first elements xs are lent, and the others ys stay with the lender
-    pub lends-front : K → Soaks G → Single X.mir → (xs ys : List X.Denot) → length xs ≡ k → Room X k
+    pub lends_front : K → Soaks G → Single X.mir → (xs ys : List X.Denot) → length xs ≡ k → Room X k
         → (length (xs ++ ys) ≡ n → (α : ℕ) (γ : GName) → Seq K 𝓛 (‵ (Slice X ℓ l 0 k (α ∷ []) γ xs)
         ∷ ‵ (Slice-lender X ℓ l 0 k (α ∷ []) γ) ∷ ‵ (token α) ∷ ‵ (After k ys) ∷ Γ) G)
         → Seq K 𝓛 (‵ (Array-held X n l (xs ++ ys)) ∷ Γ) G
-    lends-front t z one xs ys e room s =
+    lends_front t z one xs ys e room s =
         use1 𝓛 (‵ ((arr_parts (shares X) n).part full_share (xs ++ ys) l 0))
         (Array-apart 𝓛 X full_share one n (xs ++ ys) l 0) $ fsplit t $ feq_l t (λ long.
         use1 𝓛 (‵ (cells (mem X) (xs ++ ys) l 0)) (whole_in 𝓛 X (xs ++ ys) l 0) $
         use1 𝓛 (‵ (cells (mem X) xs l 0) ⊛ ‵ (After (length xs) ys)) (cut_app 𝓛 (mem X) xs ys l 0) $ split t $
-        rewrite t 1 (λ (m : ℕ). ‵ (After m ys)) e refl $ lends-new t z (‵ (cells (mem X) xs l 0))
+        rewrite t 1 (λ (m : ℕ). ‵ (After m ys)) e refl $ lends_new t z (‵ (cells (mem X) xs l 0))
         (λ α γ. ‵ (Slice X ℓ l 0 k (α ∷ []) γ xs) ⊛ ‵ (Slice-lender X ℓ l 0 k (α ∷ []) γ))
-        (λ α. lends-all X ℓ l 0 k 𝓛 (α ∷ []) xs e room) (λ α γ. split t $ s long α γ))
+        (λ α. lends_all X ℓ l 0 k 𝓛 (α ∷ []) xs e room) (λ α γ. split t $ s long α γ))
 
     -- the first elements are had back as us, and with the others they are the array
     pub takes_front : K → Soaks G → (α : ℕ) (γ : GName) (xs us ys : List X.Denot) → length xs ≡ k

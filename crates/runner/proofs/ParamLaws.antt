@@ -66,11 +66,11 @@ told₃ κs = (
 
 module _ {M : Type 1} {𝓤 : Ura M} (𝓛 : Logic 𝓤) where
   -- the machine values of a record and of a machine have their types
-  pub record-typed : (x : Record) (u : Val) → Is T.the_row x (u ∷ []) → Holds (has_ty T'.mir u) × WT u
-  record-typed x u is = ((LL.lawful T.the_type T'.the_laws 𝓛).typed x (u ∷ []) is).0
+  pub record_typed : (x : Record) (u : Val) → Is T.the_row x (u ∷ []) → Holds (has_ty T'.mir u) × WT u
+  record_typed x u is = ((LL.lawful T.the_type T'.the_laws 𝓛).typed x (u ∷ []) is).0
 
-  pub machine-typed : (n : Machine) (u : Val) → Is N.the_row n (u ∷ []) → Holds (has_ty N'.mir u) × WT u
-  machine-typed n u is = ((LL.lawful N.the_type N'.the_laws 𝓛).typed n (u ∷ []) is).0
+  pub machine_typed : (n : Machine) (u : Val) → Is N.the_row n (u ∷ []) → Holds (has_ty N'.mir u) × WT u
+  machine_typed n u is = ((LL.lawful N.the_type N'.the_laws 𝓛).typed n (u ∷ []) is).0
 
   -- the last records are said
   pub said₆ : (κs : Lfts 5) (a : Args tick.signature κs) (us : List Record)

@@ -1,11 +1,11 @@
 -- The steps that the walks of the runner share. A walk shows that a function meets its contract, by the function's code
 -- (its MIR); of what the function calls it knows the contracts alone.
---     slice-typed, reads, big-lit          a slice's machine value; an operand that is a local, or a large number
+--     slice_typed, reads, big_lit          a slice's machine value; an operand that is a local, or a large number
 --     locals, allocated, freed             a function's locals, first in the context: local i stands at 2 · i
 --     tokens, owners, spread, pack         what is had as one, as the lifetimes' tokens, is had each; and back
---     asks_nothing, asks-that, asks-one    what a callee asks
---     called, called-last                  a call, and what is known and had once it has returned
---     ends, cite, by-walk                  how a walk ends; a callee's theorem, as it is known; the function's theorem
+--     asks_nothing, asks_that, asks_one    what a callee asks
+--     called, called_last                  a call, and what is known and had once it has returned
+--     ends, cite, by_walk                  how a walk ends; a callee's theorem, as it is known; the function's theorem
 use mathlib.Core.Path.{◌≡◌, refl}
 use mathlib.Core.List.{List, [], ◌∷◌, ◌++◌}
 use mathlib.Core.Option.{Option, none, some as holds}
@@ -50,8 +50,8 @@ env [] bs = []
 env (local τ h ∷ ls) bs = (τ, bs.0) ∷ env ls bs.1
 
 -- a slice's machine value has its type where its count fits
-abbrev pub slice-typed : {k : ℕ} → k < 2 ^ 64 → Unit {0} × (Unit {0} × (Fits w64 k × Unit {0}))
-slice-typed fits = (tt, (tt, (record { fits = fits }, tt)))
+abbrev pub slice_typed : {k : ℕ} → k < 2 ^ 64 → Unit {0} × (Unit {0} × (Fits w64 k × Unit {0}))
+slice_typed fits = (tt, (tt, (record { fits = fits }, tt)))
 
 -- n numbers, from i on
 abbrev pub span : ℕ → ℕ → List ℕ
@@ -96,10 +96,10 @@ module _ {M : Type 1} {𝓤 : Ura M} (𝓛 : Logic 𝓤) where
   each_of (i ∷ Δ) = via 𝓤 _ (mono_r 𝓤 (mean 𝓛 i) (each_of Δ)) (push 𝓛 i Δ)
 
   -- the tokens that a contract says
-  all-tokens : (n : ℕ) (κs : Lfts n) (qs : Shares n)
+  all_tokens : (n : ℕ) (κs : Lfts n) (qs : Shares n)
       → ent 𝓤 (toks 𝓛 n κs qs) (mean 𝓛 (together (tokens n κs qs)))
-  all-tokens zero κs qs = id⊢ 𝓤 (emp 𝓤)
-  all-tokens (suc n) κs qs = mono_r 𝓤 (A.lft κs.0 qs.0) (all-tokens n κs.1 qs.1)
+  all_tokens zero κs qs = id⊢ 𝓤 (emp 𝓤)
+  all_tokens (suc n) κs qs = mono_r 𝓤 (A.lft κs.0 qs.0) (all_tokens n κs.1 qs.1)
 
   -- what follows an entry
   under : (i : Item 𝓤) (Δ Γ : List (Item 𝓤)) → ent 𝓤 (⋆ 𝓛 Δ) (⋆ 𝓛 Γ)
@@ -131,11 +131,11 @@ module _ {M : Type 1} (𝓤 : Ura M) (P : SProp 𝓤) where
   pub asks_nothing : ent 𝓤 P (sep 𝓤 P (emp 𝓤))
   asks_nothing = via 𝓤 _ (emp∗ 𝓤 P) (comm∗ 𝓤 (emp 𝓤) P)
 
-  pub asks-that : {φ : Type 0} → φ → ent 𝓤 P (sep 𝓤 P (fact 𝓤 φ))
-  asks-that {φ} x = via 𝓤 _ asks_nothing (mono_r 𝓤 P (fact_i 𝓤 φ (emp 𝓤) x))
+  pub asks_that : {φ : Type 0} → φ → ent 𝓤 P (sep 𝓤 P (fact 𝓤 φ))
+  asks_that {φ} x = via 𝓤 _ asks_nothing (mono_r 𝓤 P (fact_i 𝓤 φ (emp 𝓤) x))
 
-pub asks-one : {M : Type 1} (𝓤 : Ura M) (P : SProp 𝓤) → ent 𝓤 P (sep 𝓤 (sep 𝓤 (emp 𝓤) (sep 𝓤 P (emp 𝓤))) (emp 𝓤))
-asks-one 𝓤 P = via 𝓤 _ (asks_nothing 𝓤 P) (via 𝓤 _ (emp∗ 𝓤 (sep 𝓤 P (emp 𝓤))) (asks_nothing 𝓤 _))
+pub asks_one : {M : Type 1} (𝓤 : Ura M) (P : SProp 𝓤) → ent 𝓤 P (sep 𝓤 (sep 𝓤 (emp 𝓤) (sep 𝓤 P (emp 𝓤))) (emp 𝓤))
+asks_one 𝓤 P = via 𝓤 _ (asks_nothing 𝓤 P) (via 𝓤 _ (emp∗ 𝓤 (sep 𝓤 P (emp 𝓤))) (asks_nothing 𝓤 _))
 
 module _ {M : Type 1} {𝓤 : Ura M} where
   module _ {𝓛 : Logic 𝓤} {K : Type 0} {Γ : List (Item 𝓤)} where
@@ -148,8 +148,8 @@ module _ {M : Type 1} {𝓤 : Ura M} where
     reads t n e = load t (from t (stop t)) (look t n e)
 
     -- a constant whose bound a proof shows
-    pub big-lit : K → {E : Env 𝓤 H} {w : Width} {n : ℕ} → Fits w n → Opd K 𝓛 Γ E (int_big w n) (vint w n)
-    big-lit t {E} {w} {n} fits =
+    pub big_lit : K → {E : Env 𝓤 H} {w : Width} {n : ℕ} → Fits w n → Opd K 𝓛 Γ E (int_big w n) (vint w n)
+    big_lit t {E} {w} {n} fits =
         record { go = λ Kt h. via 𝓤 (Kt (vint w n)) h (guard_i 𝓤 (Fits w n) (Kt (vint w n)) fits) }
 
     -- entries that are had as one are had each
@@ -230,14 +230,14 @@ module _ {M : Type 1} {𝓤 : Ura M} {𝓛 : Logic 𝓤} {K : Type 0} {Γ : List
   -- ws, and what r owns, the tokens and the last values are had
   open 𝓛 use {H}
 
-  pub called-last : K → (𝓣 : Tables 𝓤 H) (X : Terms 𝓤) → Known 𝓛 X 𝓣 f
+  pub called_last : K → (𝓣 : Tables 𝓤 H) (X : Terms 𝓤) → Known 𝓛 X 𝓣 f
       → (y : (triple 𝓛 X).Ghost) {i : Item 𝓤} → ent 𝓤 (mean 𝓛 i) ((triple 𝓛 X).pre y)
       → Opds K 𝓛 (i ∷ Γ) E xs ((triple 𝓛 X).args y) → (φ : (Result 𝓛 X y).Denot → Final 𝓛 X y → Type 0)
       → ((r : (Result 𝓛 X y).Denot) (ws : Final 𝓛 X y) → ent 𝓤 (Ensures 𝓛 X y r ws) (fact 𝓤 (φ r ws)))
       → ((u : Val) (r : (Result 𝓛 X y).Denot) (ws : Final 𝓛 X y) → φ r ws → Is (Result 𝓛 X y) r (u ∷ [])
       → Seq K 𝓛 (‵ ((Result 𝓛 X y).own r (u ∷ [])) ∷ Live 𝓛 X y ∷ ‵ (Last 𝓛 X y ws) ∷ Γ)
       (lands 𝓣.C Λ E d u then q)) → Seq K 𝓛 (i ∷ Γ) (runs 𝓣.C Λ E (seq (call f xs d) then) q)
-  called-last t 𝓣 X known y {i} asks os φ says k =
+  called_last t 𝓣 X known y {i} asks os φ says k =
       let R = Result 𝓛 X y in
       let n = X.0.signature.lifetimes in
       calls_from t (fm_of 𝓤 H 𝓛.laws 𝓣) i ((triple 𝓛 X).args y) ((triple 𝓛 X).post y)
@@ -246,7 +246,7 @@ module _ {M : Type 1} {𝓤 : Ura M} {𝓛 : Logic 𝓤} {K : Type 0} {Γ : List
       ⊛ some (λ (ws : Final 𝓛 X y). ‵ (Last 𝓛 X y ws) ⊛ raw (Ensures 𝓛 X y r ws)))))
       (id⊢ 𝓤 _) $ await t tt $ pick t (λ r. split t $ move t (1 ∷ []) $ pick t (λ ws. split t $ move t (1 ∷ []) $
       use1 𝓛 (raw (fact 𝓤 (φ r ws))) (says r ws) $ heard t (φ r ws) (λ e. move t (1 ∷ []) $ split t $
-      use1 𝓛 (Live 𝓛 X y) (all-tokens 𝓛 n y.0.0 y.0.1) $
+      use1 𝓛 (Live 𝓛 X y) (all_tokens 𝓛 n y.0.0 y.0.1) $
       move t (1 ∷ []) $ peeks t R (Is R) (shows 𝓛 R) r (u ∷ []) (λ is. k u r ws e is)))))
 
   -- the same where the last values do not matter
@@ -258,18 +258,18 @@ module _ {M : Type 1} {𝓤 : Ura M} {𝓛 : Logic 𝓤} {K : Type 0} {Γ : List
       → Seq K 𝓛 (‵ ((Result 𝓛 X y).own r (u ∷ [])) ∷ Live 𝓛 X y ∷ Γ) (lands 𝓣.C Λ E d u then q))
       → Seq K 𝓛 (i ∷ Γ) (runs 𝓣.C Λ E (seq (call f xs d) then) q)
   called t 𝓣 X known y asks os φ says k =
-      called-last t 𝓣 X known y asks os (λ r ws. φ r) says (λ u r ws e is. move t (2 ∷ []) $ drop t $ k u r e is)
+      called_last t 𝓣 X known y asks os (λ r ws. φ r) says (λ u r ws e is. move t (2 ∷ []) $ drop t $ k u r e is)
 
 -- ---- from a walk to the function's theorem
 module _ {M : Type 1} {𝓤 : Ura M} (𝓛 : Logic 𝓤) (𝓜 : Model 𝓤 𝓛.H) (𝓡 : Running 𝓤 𝓛.H 𝓜) (γ : Names) where
   -- the tables of a walk
   open 𝓛 use {H}
 
-  abbrev pub tablesAt : Tables 𝓤 H
-  tablesAt = tables_of 𝓤 H 𝓜 (tables 𝓤 H 𝓜 𝓡 γ)
+  abbrev pub tables_at : Tables 𝓤 H
+  tables_at = tables_of 𝓤 H 𝓜 (tables 𝓤 H 𝓜 𝓡 γ)
 
   -- the theorem of a callee, as the walk knows it
-  pub cite : {c : Contract 𝓤} {k : Name} {r : Routine} → γ k ≡ r → Triple 𝓤 (𝓡.run r) c → Triple 𝓤 (tablesAt.C k) c
+  pub cite : {c : Contract 𝓤} {k : Name} {r : Routine} → γ k ≡ r → Triple 𝓤 (𝓡.run r) c → Triple 𝓤 (tables_at.C k) c
   unfolding tables_of
   cite {c} {k} {r} is met = cited 𝓤 H c 𝓜 𝓡 γ k r is met
 
@@ -281,19 +281,19 @@ module _ {M : Type 1} {𝓤 : Ura M} (𝓛 : Logic 𝓤) (𝓜 : Model 𝓤 𝓛
     Kinds κs = types_at S.params κs
 
     -- it is enough to walk where the parameters' machine values are written out, and their relations are known
-    pub by-walk : (k : Name) (f : Fn) → Closed 𝓤 H (tables 𝓤 H 𝓜 𝓡 γ).C (tables 𝓤 H 𝓜 𝓡 γ).Λ k f
+    pub by_walk : (k : Name) (f : Fn) → Closed 𝓤 H (tables 𝓤 H 𝓜 𝓡 γ).C (tables 𝓤 H 𝓜 𝓡 γ).Λ k f
         → (sp : (κs : Lfts S.lifetimes) → Spells (Kinds κs))
         → ((κs : Lfts S.lifetimes) → Tellss (Kinds κs) (Ises (Kinds κs)) (sp κs))
         → ((κs : Lfts S.lifetimes) (qs : Shares S.lifetimes) (bounds : AllOutlive S.lifetimes S.outlives κs)
         (a : Args S κs) (g : (X.1 κs a).ghost) → Are (Kinds κs) (Ises (Kinds κs)) a (valss (Kinds κs) (sp κs) a)
-        → Walk 𝓛 X tablesAt f ((κs, qs, bounds, a, valss (Kinds κs) (sp κs) a), g))
+        → Walk 𝓛 X tables_at f ((κs, qs, bounds, a, valss (Kinds κs) (sp κs) a), g))
         → Triple 𝓤 (𝓡.run (γ k)) (triple 𝓛 X)
     unfolding tables_of
-    by-walk k f closed sp tl walk =
+    by_walk k f closed sp tl walk =
         entered 𝓤 H (triple 𝓛 X) (tables 𝓤 H 𝓜 𝓡 γ).C (tables 𝓤 H 𝓜 𝓡 γ).Λ k f closed
         (λ ((κs, qs, bounds, a, vss), g).
         let R : SProp 𝓤 = (X.1 κs a).requires g in
-        let Q : Vals S κs → SProp 𝓤 = λ us. WpFn 𝓤 H tablesAt.C tablesAt.Λ f (flat (Kinds κs) us)
+        let Q : Vals S κs → SProp 𝓤 = λ us. WpFn 𝓤 H tables_at.C tables_at.Λ f (flat (Kinds κs) us)
         ((triple 𝓛 X).post ((κs, qs, bounds, a, us), g)) in
         via 𝓤 _ (mono_l 𝓤 R (said 𝓛 S κs qs (sp κs) (tl κs) a (λ us. wand 𝓤 R (Q us)) vss
         (λ are. wand_i 𝓤 _ R _ (walk κs qs bounds a g are))))

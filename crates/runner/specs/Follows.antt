@@ -1,10 +1,10 @@
 -- How a record follows a thread of the run: the relation that every tick keeps. It says more than `Shown`, which is
 -- what is promised: where what belongs to an item is kept, and that every number is small.
 use Rattle.std.specs.Prelude.{◌≡◌, Bool, true, false, cond, List, [], ◌∷◌, ℕ, ◌-◌, ◌<◌, ◌≤◌, length, get_or}
-use Rattle.table.specs.Constants.{most-names}
+use Rattle.table.specs.Constants.{most_names}
 use Rattle.table.specs.Program.{Code}
 use Rattle.run.specs.Run.{Env, Open, held, alternative, called, Frame, frame, Thread, ended, at}
-use Rattle.schedule.specs.Limits.{most-locks, most-frames}
+use Rattle.schedule.specs.Limits.{most_locks, most_frames}
 use Rattle.steps.specs.declared.thread.Thread.{Thread as Record}
 use Rattle.steps.specs.Shown.{NamesAt, FramesAt}
 use Rattle.links.specs.Lies.{Section, link_at, Lies}
@@ -35,11 +35,11 @@ Stand z goes from c fs = (q : Bool) × (to : ℕ) × Lies z q from c to × Rest 
 
 -- every name stands for a small number
 abbrev pub Small : Env → Type 0
-Small e = (x : ℕ) → x < most-names → e x < most-locks
+Small e = (x : ℕ) → x < most_names → e x < most_locks
 
 -- the lock held is small
 abbrev pub SmallOpen : Open → Type 0
-SmallOpen (held l) = l < most-locks
+SmallOpen (held l) = l < most_locks
 SmallOpen alternative = Unit {0}
 SmallOpen called = Unit {0}
 
@@ -52,7 +52,7 @@ AllSmall (frame o e d ∷ fs) = SmallOpen o × Small e × AllSmall fs
 pub record FollowsAt (z : Section) (c : Code) (e : Env) (fs : List Frame) (r : Record) : Type 0 where
   pub runs : r.ended ≡ false
   pub deep : r.depth ≡ length fs
-  pub few : length fs ≤ most-frames
+  pub few : length fs ≤ most_frames
   pub stand : Stand z r.goes r.at c fs
   pub names : NamesAt r.names (length fs) e
   pub frames : FramesAt r.kinds r.names fs

@@ -4,5 +4,5 @@ pub mod Ticks
 pub mod Follows
 pub mod Tracks
 pub mod Bounds
-pub mod Contracts
-pub mod laws
+pub mod Parts
+pub mod Laws

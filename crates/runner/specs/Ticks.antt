@@ -5,42 +5,42 @@ use Rattle.steps.specs.Shown.{blank}
 use Rattle.links.specs.Lies.{Section, section}
 use Rattle.steps.specs.declared.machine.Machine.{Machine}
 use Rattle.steps.specs.declared.Ticked.{Ticked}
-use Rattle.steps.specs.Steps.{stepAs, Ready}
-use Rattle.schedule.specs.Limits.{most-frames, all-names}
+use Rattle.steps.specs.Steps.{step_as, Ready}
+use Rattle.schedule.specs.Limits.{most_frames, all_names}
 
 -- the parameter counts and the body section of a table, as code takes them
-abbrev pub countsIn : List ℕ → List ℕ
-countsIn table = take (get_or table 0 0 + 1 - 1) (drop 1 table)
+abbrev pub counts_in : List ℕ → List ℕ
+counts_in table = take (get_or table 0 0 + 1 - 1) (drop 1 table)
 
-abbrev pub bytesIn : List ℕ → List ℕ
-bytesIn table = take (length table - (get_or table 0 0 + 3)) (drop (get_or table 0 0 + 3) table)
+abbrev pub bytes_in : List ℕ → List ℕ
+bytes_in table = take (length table - (get_or table 0 0 + 3)) (drop (get_or table 0 0 + 3) table)
 
 -- what a tick needs beside the records and the machine: the sections of the table, where its bodies start, what belongs
 -- to its items, and the schedule
-abbrev pub sectionOf : List ℕ → List ℕ → List ℕ → List ℕ → Section
-sectionOf table heads links bs = section (countsIn table) (bytesIn table) heads links bs
+abbrev pub section_of : List ℕ → List ℕ → List ℕ → List ℕ → Section
+section_of table heads links bs = section (counts_in table) (bytes_in table) heads links bs
 
 -- a tick of the machine on the record t
-abbrev pub tickAs : Section → Record → Machine → Ticked
-tickAs z t m = stepAs z.counts z.bytes z.heads z.links z.schedule t m
+abbrev pub tick_as : Section → Record → Machine → Ticked
+tick_as z t m = step_as z.counts z.bytes z.heads z.links z.schedule t m
 
 -- the record that the machine looks at
 abbrev pub looked : List Record → Machine → Record
 looked ts m = get_or ts m.pick blank
 
 -- the records after a tick
-abbrev pub recordsAfter : Section → List Record → Machine → List Record
-recordsAfter z ts m = set ts m.pick (tickAs z (looked ts m) m).thread
+abbrev pub records_after : Section → List Record → Machine → List Record
+records_after z ts m = set ts m.pick (tick_as z (looked ts m) m).thread
 
 -- the machine after a tick
-abbrev pub machineAfter : Section → List Record → Machine → Machine
-machineAfter z ts m = (tickAs z (looked ts m) m).machine
+abbrev pub machine_after : Section → List Record → Machine → Machine
+machine_after z ts m = (tick_as z (looked ts m) m).machine
 
 -- the arrays of a record have their lengths: every record that is written has
 pub record Sized (t : Record) : Type 0 where
-  pub kinds : length t.kinds ≡ most-frames
-  pub goes : length t.goes ≡ most-frames
-  pub names : length t.names ≡ all-names
+  pub kinds : length t.kinds ≡ most_frames
+  pub goes : length t.goes ≡ most_frames
+  pub names : length t.names ≡ all_names
 
 -- the record t can be stepped, in a section that is not empty
 pub record CanStep (z : Section) (t : Record) (m : Machine) : Type 0 where
@@ -55,8 +55,8 @@ pub record CanTick (z : Section) (ts : List Record) (m : Machine) : Type 0 where
 -- by ticks, from records and a machine to records and a machine
 pub data Ticks (z : Section) (ts : List Record) (m : Machine) : List Record → Machine → Type 0 where
   start : Ticks z ts m ts m
-  more : (us vs : List Record) (n k : Machine) → Ticks z ts m us n → (n.stage ≡ 2 → ⊥) → vs ≡ recordsAfter z us n
-      → k ≡ machineAfter z us n → Sized (tickAs z (looked us n) n).thread → Ticks z ts m vs k
+  more : (us vs : List Record) (n k : Machine) → Ticks z ts m us n → (n.stage ≡ 2 → ⊥) → vs ≡ records_after z us n
+      → k ≡ machine_after z us n → Sized (tick_as z (looked us n) n).thread → Ticks z ts m vs k
 
 -- how much is left to do, at most: two ticks for each byte, for a thread may start
 abbrev pub left : Section → Machine → ℕ
@@ -67,4 +67,4 @@ left z m =
 abbrev pub Steady : Section → List Record → Machine → Type 0
 Steady z ts m =
     (us : List Record) (n : Machine) → Ticks z ts m us n → (n.stage ≡ 2 → ⊥)
-    → CanTick z us n × (left z (machineAfter z us n) < left z n)
+    → CanTick z us n × (left z (machine_after z us n) < left z n)

@@ -2,13 +2,13 @@
 use Rattle.std.specs.Prelude.{◌≡◌, ◌≢◌, cond, List, [], ◌∷◌, ℕ, suc, ◌+◌, ◌<◌, ◌≤◌, eqb, length, get_or, set}
 use Rattle.table.specs.Program.{end, new, lock, fork, choice, call, mirror}
 use Rattle.run.specs.Run.{Thread, ended, at, State, thread, holds}
-use Rattle.schedule.specs.Limits.{most-threads, most-locks}
-use Rattle.schedule.specs.Schedule.{Outlook, none_left, all-wait, some-can}
+use Rattle.schedule.specs.Limits.{most_threads, most_locks}
+use Rattle.schedule.specs.Schedule.{Outlook, none_left, all_wait, some_can}
 use Rattle.steps.specs.declared.thread.Thread.{Thread as Record}
 use Rattle.steps.specs.Shown.{blank}
-use Rattle.steps.specs.Records.{bornAt}
+use Rattle.steps.specs.Records.{born_at}
 use Rattle.steps.specs.declared.machine.Machine.{Machine}
-use Rattle.steps.specs.Machines.{ended-mark, stuck-mark, open-mark}
+use Rattle.steps.specs.Machines.{ended_mark, stuck_mark, open_mark}
 use Rattle.links.specs.Lies.{Section}
 use Rattle.runner.specs.Ticks.{Sized, looked}
 use Rattle.runner.specs.Follows.{Follows}
@@ -21,23 +21,23 @@ occurs l (x ∷ xs) = cond (eqb x l) (suc (occurs l xs)) (occurs l xs)
 -- each lock is held by its owner alone, as often as the count says
 abbrev pub Held : State → Machine → Type 0
 Held s m =
-    (u l : ℕ) → l < most-locks
+    (u l : ℕ) → l < most_locks
     → occurs l (holds (thread s u)) ≡ cond (eqb (get_or m.owner l 0) u) (get_or m.count l 0) 0
 
 -- what a thread wants: the lock that its next item takes, nothing, or nothing any more
-abbrev pub wantOf : Thread → ℕ
-wantOf ended = most-locks + 1
-wantOf (at end e fs) = most-locks
-wantOf (at (new x c) e fs) = most-locks
-wantOf (at (lock x c d) e fs) = e x
-wantOf (at (fork i c d) e fs) = most-locks
-wantOf (at (choice a b c) e fs) = most-locks
-wantOf (at (call r xs c) e fs) = most-locks
-wantOf (at (mirror x y c) e fs) = most-locks
+abbrev pub want_of : Thread → ℕ
+want_of ended = most_locks + 1
+want_of (at end e fs) = most_locks
+want_of (at (new x c) e fs) = most_locks
+want_of (at (lock x c d) e fs) = e x
+want_of (at (fork i c d) e fs) = most_locks
+want_of (at (choice a b c) e fs) = most_locks
+want_of (at (call r xs c) e fs) = most_locks
+want_of (at (mirror x y c) e fs) = most_locks
 
 -- a thread wants a lock that there can be
 abbrev pub SmallWant : Thread → Type 0
-SmallWant (at (lock x c d) e fs) = e x < most-locks
+SmallWant (at (lock x c d) e fs) = e x < most_locks
 SmallWant ended = Unit {0}
 SmallWant (at end e fs) = Unit {0}
 SmallWant (at (new x c) e fs) = Unit {0}
@@ -48,32 +48,32 @@ SmallWant (at (mirror x y c) e fs) = Unit {0}
 
 -- what each thread wants is as the machine has it
 pub record Wants (s : State) (m : Machine) : Type 0 where
-  pub wanted : (t : ℕ) → t < length s.threads → get_or m.wants t 0 ≡ wantOf (thread s t)
+  pub wanted : (t : ℕ) → t < length s.threads → get_or m.wants t 0 ≡ want_of (thread s t)
   pub small : (t : ℕ) → SmallWant (thread s t)
 
 -- the number that the machine has for how threads stand
-abbrev pub outlookNumber : Outlook → ℕ
-outlookNumber none_left = ended-mark
-outlookNumber all-wait = stuck-mark
-outlookNumber some-can = open-mark
+abbrev pub outlook_number : Outlook → ℕ
+outlook_number none_left = ended_mark
+outlook_number all_wait = stuck_mark
+outlook_number some_can = open_mark
 
 -- the records, with the one that is still to be written
 abbrev pub written : List Record → Machine → List Record
-written ts m = cond (eqb m.stage 0) (set ts m.pick (bornAt (looked ts m) m.head m.born)) ts
+written ts m = cond (eqb m.stage 0) (set ts m.pick (born_at (looked ts m) m.head m.born)) ts
 
 -- the records and the machine track the state; of a record that is still to be written nothing is known but by its size
 pub record Tracks (z : Section) (s : State) (ts : List Record) (m : Machine) : Type 0 where
   pub threads : m.threads ≡ length s.threads
-  pub few : length s.threads ≤ most-threads
+  pub few : length s.threads ≤ most_threads
   pub lent : m.lent ≡ length ts
   pub room : length s.threads ≤ length ts
   pub made : m.made ≡ s.made
-  pub few-locks : s.made ≤ most-locks
+  pub few_locks : s.made ≤ most_locks
   pub follows : (t : ℕ) → t < length s.threads → Sized (get_or (written ts m) t blank)
       → Follows z (thread s t) (get_or (written ts m) t blank)
   pub sized : (t : ℕ) → t < length s.threads → (m.stage ≡ 0 → t ≢ m.pick) → Sized (get_or (written ts m) t blank)
   pub held : Held s m
   pub wants : Wants s m
-  pub owners : length m.owner ≡ most-locks
-  pub counts : length m.count ≡ most-locks
-  pub wants-long : length m.wants ≡ most-threads
+  pub owners : length m.owner ≡ most_locks
+  pub counts : length m.count ≡ most_locks
+  pub wants_long : length m.wants ≡ most_threads

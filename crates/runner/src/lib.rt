@@ -1,11 +1,11 @@
 // The schedule runner: a table run under a schedule, its threads in a lent run of records.
 ghost use Rattle.std.specs.Prelude.{◌≡◌, not, eqb, length};
-ghost use Rattle.table.specs.Constants.{most-routines, most_bytes};
-ghost use Rattle.table.specs.Check.{checkTable};
-ghost use Rattle.runner.specs.Answer.{Runs, reportOf, Reports};
-ghost use Rattle.runner.specs.Desk.{fresh, lentOf, RunsFresh};
-ghost use Rattle.runner.specs.Contracts.{unbegunAs, firstMachine, Prepared, answer_of, reportAs};
-ghost use Rattle.runner.specs.Ticks.{sectionOf, tickAs, looked, recordsAfter, machineAfter};
+ghost use Rattle.table.specs.Constants.{most_routines, most_bytes};
+ghost use Rattle.table.specs.Check.{check_table};
+ghost use Rattle.runner.specs.Answer.{Runs, report_of, Reports};
+ghost use Rattle.runner.specs.Desk.{fresh, lent_of, RunsFresh};
+ghost use Rattle.runner.specs.Parts.{unbegun_as, first_machine, Prepared, answer_of, report_as};
+ghost use Rattle.runner.specs.Ticks.{section_of, tick_as, looked, records_after, machine_after};
 ghost use Rattle.runner.specs.Ticks.{Sized, CanStep, CanTick, Ticks, Steady};
 
 use links::link;
@@ -57,7 +57,7 @@ pub struct Desk {
 
 // The machine before anything is done, where so many records are lent.
 fn unbegun(lent: usize) -> Machine
-    ensures { result ≡ unbegunAs lent }
+    ensures { result ≡ unbegun_as lent }
 {
     Machine {
         stage: OVER,
@@ -78,7 +78,7 @@ fn unbegun(lent: usize) -> Machine
 // The machine before the first byte: thread 0 is to be written, or there is no record for it. Routine 0 has no
 // parameters, so that its first item is no LOCK, and thread 0 wants nothing.
 fn begin(lent: usize) -> Machine
-    ensures { result ≡ firstMachine lent }
+    ensures { result ≡ first_machine lent }
 {
     let m = unbegun(lent);
     if lent == 0 {
@@ -97,7 +97,7 @@ fn prepared(
     heads: &mut [usize; MOST_ROUTINES],
     links: &mut [usize; MOST_BYTES],
 ) -> Machine
-    requires { (length heads.old ≡ most-routines) × (length links.old ≡ most_bytes) }
+    requires { (length heads.old ≡ most_routines) × (length links.old ≡ most_bytes) }
     ensures { Prepared table.now schedule.now lent heads.new
         links.new result }
 {
@@ -120,8 +120,8 @@ fn stepped(
     t: Thread,
     m: Machine,
 ) -> Ticked
-    requires { CanStep (sectionOf table.now heads.now links.now schedule.now) t m }
-    ensures { (result ≡ tickAs (sectionOf table.now heads.now links.now
+    requires { CanStep (section_of table.now heads.now links.now schedule.now) t m }
+    ensures { (result ≡ tick_as (section_of table.now heads.now links.now
         schedule.now) t m)
         × Sized result.thread }
 {
@@ -196,12 +196,12 @@ fn tick(
     records: &mut [Thread],
     m: Machine,
 ) -> Machine
-    requires { CanTick (sectionOf table.now heads.now links.now schedule.now) records.old m }
-    ensures { (records.new ≡ recordsAfter (sectionOf table.now heads.now
+    requires { CanTick (section_of table.now heads.now links.now schedule.now) records.old m }
+    ensures { (records.new ≡ records_after (section_of table.now heads.now
         links.now schedule.now) records.old m)
-        × (result ≡ machineAfter (sectionOf table.now heads.now links.now
+        × (result ≡ machine_after (section_of table.now heads.now links.now
         schedule.now) records.old m)
-        × Sized (tickAs (sectionOf table.now heads.now links.now
+        × Sized (tick_as (section_of table.now heads.now links.now
         schedule.now) (looked records.old m) m).thread }
 {
     let i = m.pick;
@@ -221,8 +221,8 @@ fn ticks(
     records: &mut [Thread],
     m: Machine,
 ) -> Machine
-    requires { Steady (sectionOf table.now heads.now links.now schedule.now) records.old m }
-    ensures { Ticks (sectionOf table.now heads.now links.now
+    requires { Steady (section_of table.now heads.now links.now schedule.now) records.old m }
+    ensures { Ticks (section_of table.now heads.now links.now
         schedule.now) records.old m records.new result × (result.stage ≡ 2) }
 {
     let mut n = m;
@@ -235,7 +235,7 @@ fn ticks(
 
 // Runs a table under a schedule.
 pub fn run_schedule(table: &[u8], schedule: &[u8], records: &mut [Thread]) -> Ran
-    ensures { Runs (checkTable table.now) schedule.now records.old
+    ensures { Runs (check_table table.now) schedule.now records.old
         records.new result }
 {
     let mut heads = [0usize; MOST_ROUTINES];
@@ -247,7 +247,7 @@ pub fn run_schedule(table: &[u8], schedule: &[u8], records: &mut [Thread]) -> Ra
 
 // The report of an answer.
 fn reported(r: Ran) -> Report
-    ensures { result ≡ reportOf r }
+    ensures { result ≡ report_of r }
 {
     match r {
         Ran::Refused(e) => Report {
@@ -266,7 +266,7 @@ fn reported(r: Ran) -> Report
 
 // The report of a run that came so far, with the number of its answer.
 fn report_of(answer: u64, x: Extent) -> Report
-    ensures { result ≡ reportAs answer x }
+    ensures { result ≡ report_as answer x }
 {
     Report {
         answer: answer,
@@ -279,7 +279,7 @@ fn report_of(answer: u64, x: Extent) -> Report
 // Runs a table under a schedule, for a caller in C.
 #[unsafe(no_mangle)]
 pub extern "C" fn vangpear_run(table: &[u8], schedule: &[u8], records: &mut [Thread]) -> Report
-    ensures { Reports (checkTable table.now) schedule.now records.old
+    ensures { Reports (check_table table.now) schedule.now records.old
         records.new result }
 {
     let r = run_schedule(table, schedule, records);
@@ -302,14 +302,14 @@ fn blank() -> Thread
 
 // How many of a desk's records are lent.
 fn lent_of(n: usize) -> usize
-    ensures { result ≡ lentOf n }
+    ensures { result ≡ lent_of n }
 {
     if n < MOST_THREADS { n } else { MOST_THREADS }
 }
 
 // Runs a table under a schedule with the first n of a desk's records.
 pub fn run_fresh(table: &[u8], schedule: &[u8], n: usize) -> Desk
-    ensures { RunsFresh (checkTable table.now) schedule.now n result }
+    ensures { RunsFresh (check_table table.now) schedule.now n result }
 {
     let k = lent_of(n);
     let mut records = [blank(); MOST_THREADS];

@@ -10,34 +10,34 @@ use lib.ListN.{length, get_or, set, length-set}
 use lib.Seq.{get_or-set_same, get_or-set_other}
 use lib.Bits.{bit_or, or_lt}
 use lib.Pow.{pow-lt}
-use Rattle.table.specs.laws.ScopeMask.{grows, shift_one}
+use Rattle.table.specs.Laws.ScopeMask.{grows, shift_one}
 use Rattle.grid.specs.Rows.{Has, Bits}
-use Rattle.grid.specs.laws.Masks.{has-zero, has_left, has_right, has-or, has-pow, pow-has, bits-map}
+use Rattle.grid.specs.Laws.Masks.{has_zero, has_left, has_right, has_or, has_pow, pow_has, bits_map}
 use Rattle.settle.specs.Due.{Highest, All, Below, CallerAdded, Callers}
-use Rattle.settle.specs.laws.Masks.{has-top, Gathered, gathered_none, gathered-more}
-use Rattle.settle.specs.laws.Off.{inside as within, taken as bit-taken, rest-bits, rest-less as less-left}
+use Rattle.settle.specs.Laws.Masks.{has_top, Gathered, gathered_none, gathered_more}
+use Rattle.settle.specs.Laws.Off.{inside as within, taken as bit_taken, rest_bits, rest_less as less-left}
 
 -- a mask of all numbers below r, as one of those with a property that all have
 abbrev Any : ℕ → Type 0
 Any q = Unit {0}
 
-to-all : (r m : ℕ) → Gathered Any r m → All r m
-to-all r m g = record { bits = bits-map (λ q h. h.0) (λ q h. (h, tt)) g.bits; below = g.below }
+to_all : (r m : ℕ) → Gathered Any r m → All r m
+to_all r m g = record { bits = bits_map (λ q h. h.0) (λ q h. (h, tt)) g.bits; below = g.below }
 
 pub all_none : All 0 0
-all_none = to-all 0 0 (gathered_none Any)
+all_none = to_all 0 0 (gathered_none Any)
 
-pub all-turn : (r m : ℕ) → r < 64 → All r m → All (r + 1) (m + (1 * 2 ^ r) % 18446744073709551616)
-all-turn r m l b =
-    to-all (r + 1) (m + (1 * 2 ^ r) % 18446744073709551616) (gathered-more Any r m _ l tt refl
-    (record { bits = bits-map (λ q h. (h, tt)) (λ q h. h.0) b.bits; below = b.below }))
+pub all_turn : (r m : ℕ) → r < 64 → All r m → All (r + 1) (m + (1 * 2 ^ r) % 18446744073709551616)
+all_turn r m l b =
+    to_all (r + 1) (m + (1 * 2 ^ r) % 18446744073709551616) (gathered_more Any r m _ l tt refl
+    (record { bits = bits_map (λ q h. (h, tt)) (λ q h. h.0) b.bits; below = b.below }))
 
 -- masks below 2 ^ r are below 2 ^ (r + 1), and so they are with r
 wider : (r m : ℕ) → m < 2 ^ r → m < 2 ^ (r + 1)
 wider r m l = let g : 2 ^ r ≤ 2 ^ (r + 1) = grows r (r + 1) (omega arith) in omega arith
 
-with-r : (r m : ℕ) → m < 2 ^ (r + 1) → bit_or m (2 ^ r) < 2 ^ (r + 1)
-with-r r m l = or_lt (r + 1) m (2 ^ r) l (pow-lt (omega arith))
+with_r : (r m : ℕ) → m < 2 ^ (r + 1) → bit_or m (2 ^ r) < 2 ^ (r + 1)
+with_r r m l = or_lt (r + 1) m (2 ^ r) l (pow-lt (omega arith))
 
 module _ (before : List ℕ) (mask r : ℕ) where
   -- routine r was added to the callers of the routines of the mask, but for those that are left
@@ -45,24 +45,24 @@ module _ (before : List ℕ) (mask r : ℕ) where
     pub old : (q p : ℕ) → Has (get_or before q 0) p → Has (get_or after q 0) p
     pub new : (q : ℕ) → Has mask q → Has left q ⊎ Has (get_or after q 0) r
     pub only : (q p : ℕ) → Has (get_or after q 0) p → Has (get_or before q 0) p ⊎ ((p ≡ r) × Has mask q)
-    pub left-of : (q : ℕ) → Has left q → Has mask q
+    pub left_of : (q : ℕ) → Has left q → Has mask q
     pub below : Below after (r + 1)
     pub less : left ≤ mask
 
-  pub adding-none : Below before r → Adding before mask
-  adding-none b = record {
+  pub adding_none : Below before r → Adding before mask
+  adding_none b = record {
     old = λ q p h. h;
     new = λ q h. inl h;
     only = λ q p h. inl h;
-    left-of = λ q h. h;
+    left_of = λ q h. h;
     below = (b.0, λ q. wider r (get_or before q 0) (b.1 q));
     less = omega arith;
   }
 
-  pub adding-done : (after : List ℕ) (left : ℕ) → left ≡ 0 → Adding after left → CallerAdded before mask r after
-  adding-done after left e a = record {
+  pub adding_done : (after : List ℕ) (left : ℕ) → left ≡ 0 → Adding after left → CallerAdded before mask r after
+  adding_done after left e a = record {
     old = a.old;
-    new = λ q h. ⊎_elim (λ x. absurd (has-zero q (rw e at x))) (λ x. x) (a.new q h);
+    new = λ q h. ⊎_elim (λ x. absurd (has_zero q (rw e at x))) (λ x. x) (a.new q h);
     only = a.only;
     below = a.below;
   }
@@ -71,25 +71,25 @@ module _ (before : List ℕ) (mask r : ℕ) where
   module _ (small : r < 64) (fits : mask < 2 ^ 64) (after : List ℕ) (left q : ℕ) (a : Adding after left)
       (top : Highest left q) where
     bit : Has left q
-    bit = has-top left q top
+    bit = has_top left q top
 
-    low-left : left < 2 ^ 64
-    low-left = let l = a.less in omega arith
+    low_left : left < 2 ^ 64
+    low_left = let l = a.less in omega arith
 
     pub inside : q < 64
-    inside = within 64 left q (le_refl 64) low-left bit
+    inside = within 64 left q (le_refl 64) low_left bit
 
     there : q < length after
     there = let i = inside in let l = a.below.0 in omega arith
 
     pub taken : (1 * 2 ^ q) % 18446744073709551616 ≤ left
-    taken = bit-taken 64 left q (le_refl 64) low-left bit
+    taken = bit_taken 64 left q (le_refl 64) low_left bit
 
     abbrev rest : ℕ
     rest = left - (1 * 2 ^ q) % 18446744073709551616
 
     off : Bits rest (λ j. (j ≢ q) × Has left j)
-    off = rest-bits 64 left q (le_refl 64) low-left bit
+    off = rest_bits 64 left q (le_refl 64) low_left bit
 
     abbrev next : List ℕ
     next = set after q (bit_or (get_or after q 0) ((1 * 2 ^ r) % 18446744073709551616))
@@ -100,17 +100,17 @@ module _ (before : List ℕ) (mask r : ℕ) where
     other : (p : ℕ) → p ≢ q → get_or next p 0 ≡ get_or after p 0
     other p n = get_or-set_other after q p _ 0 n
 
-    pub rest-less : rest < left
-    rest-less = less-left 64 left q (le_refl 64) low-left bit
+    pub rest_less : rest < left
+    rest_less = less-left 64 left q (le_refl 64) low_left bit
 
-    pub adding-turn : Adding next rest
-    adding-turn = record {
+    pub adding_turn : Adding next rest
+    adding_turn = record {
       old = λ p i h. kept p i (a.old p i h) (ℕ_discrete p q);
       new = λ p h. told p (a.new p h) (ℕ_discrete p q);
       only = λ p i h. only p i h (ℕ_discrete p q);
-      left-of = λ p h. a.left-of p (off.to p h).1;
+      left_of = λ p h. a.left_of p (off.to p h).1;
       below = (length-set after q _ ∙ a.below.0, λ p. low p (ℕ_discrete p q));
-      less = let l = a.less in let k = rest-less in omega arith;
+      less = let l = a.less in let k = rest_less in omega arith;
     }
       where
         kept : (p i : ℕ) → Has (get_or after p 0) i → Dec (p ≡ q) → Has (get_or next p 0) i
@@ -118,20 +118,20 @@ module _ (before : List ℕ) (mask r : ℕ) where
         kept p i h (no n) = rw (other p n) h
 
         told : (p : ℕ) → Has left p ⊎ Has (get_or after p 0) r → Dec (p ≡ q) → Has rest p ⊎ Has (get_or next p 0) r
-        told p h (yes e) = inr (rw (e, here) (has_right (get_or after q 0) (2 ^ r) r (has-pow r)))
+        told p h (yes e) = inr (rw (e, here) (has_right (get_or after q 0) (2 ^ r) r (has_pow r)))
         told p (inl h) (no n) = inl (off.from p (n, h))
         told p (inr h) (no n) = inr (rw (other p n) h)
 
         only : (p i : ℕ) → Has (get_or next p 0) i → Dec (p ≡ q) → Has (get_or before p 0) i ⊎ ((i ≡ r) × Has mask p)
         only p i h (no n) = a.only p i (rw (other p n) at h)
-        only p i h (yes e) = go (has-or (get_or after q 0) (2 ^ r) i (rw (e, here) at h))
+        only p i h (yes e) = go (has_or (get_or after q 0) (2 ^ r) i (rw (e, here) at h))
           where
             go : Has (get_or after q 0) i ⊎ Has (2 ^ r) i → Has (get_or before p 0) i ⊎ ((i ≡ r) × Has mask p)
             go (inl x) = a.only p i (rw e x)
-            go (inr x) = inr (pow-has r i x, rw e (a.left-of q bit))
+            go (inr x) = inr (pow_has r i x, rw e (a.left_of q bit))
 
         low : (p : ℕ) → Dec (p ≡ q) → get_or next p 0 < 2 ^ (r + 1)
-        low p (yes e) = rw (e, here) (with-r r (get_or after q 0) (a.below.1 q))
+        low p (yes e) = rw (e, here) (with_r r (get_or after q 0) (a.below.1 q))
         low p (no n) = rw (other p n) (a.below.1 p)
 
 module _ (calls : List ℕ) where
@@ -145,7 +145,7 @@ module _ (calls : List ℕ) where
   pub turned_none : (callers : List ℕ) → Below callers 0 → Turned callers 0
   turned_none callers b = record {
     told = λ p q k h. absurd (omega arith);
-    only = λ p q h. absurd (has-zero p (let e : get_or callers q 0 ≡ 0 = (let l = b.1 q in omega arith) in rw e at h));
+    only = λ p q h. absurd (has_zero p (let e : get_or callers q 0 ≡ 0 = (let l = b.1 q in omega arith) in rw e at h));
     below = b;
     within = omega arith;
   }
@@ -168,8 +168,8 @@ module _ (calls : List ℕ) where
       step p q k h (yes e) = rw e (a.new q (rw e at h))
       step p q k h (no n) = a.old q p (t.told p q (omega arith) h)
 
-  pub turned-all : (callers : List ℕ) (r : ℕ) → length calls ≤ r → Turned callers r → Callers calls callers
-  turned-all callers r l t =
+  pub turned_all : (callers : List ℕ) (r : ℕ) → length calls ≤ r → Turned callers r → Callers calls callers
+  turned_all callers r l t =
       let w = t.within in
       let e : r ≡ length calls = omega arith in
       record {

@@ -9,64 +9,64 @@ use native.Mathlib.Decide.{ℕ_discrete}
 use lib.ListN.{length, get_or, set, length-set}
 use lib.Bits.{bit_or, or_lt}
 use Rattle.table.specs.Program.{Program, body}
-use Rattle.table.specs.laws.ScopeMask.{grows}
+use Rattle.table.specs.Laws.ScopeMask.{grows}
 use Rattle.rules.specs.Verdict.{Calls}
 use Rattle.grid.specs.Rows.{Has, Bits}
-use Rattle.grid.specs.laws.Masks.{has-zero, has-below, has_left, has_right, has-or}
+use Rattle.grid.specs.Laws.Masks.{has_zero, has_below, has_left, has_right, has_or}
 use Rattle.rows.specs.Model.{total, Moves}
-use Rattle.rows.specs.laws.Totals.{room_falls}
+use Rattle.rows.specs.Laws.Totals.{room_falls}
 use Rattle.settle.specs.Settle.{PartlyWith, Fresh}
-use Rattle.table.specs.laws.Sections.{routines, few}
+use Rattle.table.specs.Laws.Sections.{routines, few}
 use Rattle.settle.specs.Bodies.{Linked, BodyOf, RowReady, Improves}
 use Rattle.settle.specs.Bodies.{Started, Settles}
-use Rattle.settle.specs.laws.Cleared.{has?}
-use Rattle.settle.specs.laws.Off.{taken, rest-bits, rest-less, rest_below}
-use Rattle.settle.proofs.SettleLaws.{improved-partly}
+use Rattle.settle.specs.Laws.Cleared.{has?}
+use Rattle.settle.specs.Laws.Off.{taken, rest_bits, rest_less, rest_below}
+use Rattle.settle.proofs.SettleLaws.{improved_partly}
 
 -- what is due may be told otherwise
-partly-as : (P : Program) (T : ℕ → Type 0) (before model names more : List ℕ) (due next : ℕ → Type 0)
+partly_as : (P : Program) (T : ℕ → Type 0) (before model names more : List ℕ) (due next : ℕ → Type 0)
     → ((r : ℕ) → T r → (next r → ⊥) → Fresh P model more r)
     → PartlyWith P T before model names due → PartlyWith P T before model more next
-partly-as P T before model names more due next f p = record {
+partly_as P T before model names more due next f p = record {
   long = p.long;
   rest = p.rest;
   others = p.others;
   shaped = p.shaped;
   sound = p.sound;
-  ring-sound = p.ring-sound;
+  ring_sound = p.ring_sound;
   fresh = f;
 }
 
 -- the measure: the room for bits, and then the mask, which is below 2 ^ 65
-abbrev pub size-left : List ℕ → ℕ → ℕ
-size-left model left = (255 * length model - total model) * 36893488147419103232 + left
+abbrev pub size_left : List ℕ → ℕ → ℕ
+size_left model left = (255 * length model - total model) * 36893488147419103232 + left
 
 -- a change leaves less room, whatever is due then
-pub less-changed : (model after : List ℕ) (left next : ℕ) (changed : Bool) → changed ≡ true
+pub less_changed : (model after : List ℕ) (left next : ℕ) (changed : Bool) → changed ≡ true
     → length after ≡ length model → ((i : ℕ) → get_or after i 0 < 256) → Moves changed model after
-    → next < 36893488147419103232 → size-left after next < size-left model left
-less-changed model after left next changed e long bytes moves b =
+    → next < 36893488147419103232 → size_left after next < size_left model left
+less_changed model after left next changed e long bytes moves b =
     let r = room_falls changed model after e long bytes moves in
     omega arith
 
 -- without a change the mask is less
-less-same : (model after : List ℕ) (left next : ℕ) → after ≡ model → next < left
-    → size-left after next < size-left model left
-less-same model after left next s b = rw s (omega arith)
+less_same : (model after : List ℕ) (left next : ℕ) → after ≡ model → next < left
+    → size_left after next < size_left model left
+less_same model after left next s b = rw s (omega arith)
 
 -- where no cell changed the last byte may have, and else the mask is less
-less-cells : (model after : List ℕ) (left next : ℕ) (cells last : Bool) → cells ≡ false → length after ≡ length model
+less_cells : (model after : List ℕ) (left next : ℕ) (cells last : Bool) → cells ≡ false → length after ≡ length model
     → ((i : ℕ) → get_or after i 0 < 256) → Moves (cells || last) model after → next < left → left < 36893488147419103232
-    → size-left after next < size-left model left
-less-cells model after left next cells true e long bytes moves b c =
-    less-changed model after left next true refl long bytes (rw e at moves) (omega arith)
-less-cells model after left next cells false e long bytes moves b c =
-    less-same model after left next (rw e at moves) b
+    → size_left after next < size_left model left
+less_cells model after left next cells true e long bytes moves b c =
+    less_changed model after left next true refl long bytes (rw e at moves) (omega arith)
+less_cells model after left next cells false e long bytes moves b c =
+    less_same model after left next (rw e at moves) b
 
 -- what holds at each turn, of the rows, the ring names, the mask of those that are due, and the last one worked out
 pub record Going (ks s starts callers : List ℕ) (mask : ℕ) (from model names : List ℕ) (left last : ℕ) : Type 0 where
   pub long : length model ≡ length from
-  pub names-long : length names ≡ 64
+  pub names_long : length names ≡ 64
   pub within : (q : ℕ) → Has left q → Has mask q
   pub below : left < 2 ^ length ks
   pub swept : last < 64
@@ -74,25 +74,25 @@ pub record Going (ks s starts callers : List ℕ) (mask : ℕ) (from model names
       → PartlyWith P (Has mask) before from [] (Has mask) → PartlyWith P (Has mask) before model names (Has left)
 
 module _ (ks s starts callers : List ℕ) (mask : ℕ) (from : List ℕ) where
-  pub few-routines : Started ks s starts callers mask from → length ks ≤ 64
-  few-routines st = few ks s (st.program, st.linked.holds)
+  pub few_routines : Started ks s starts callers mask from → length ks ≤ 64
+  few_routines st = few ks s (st.program, st.linked.holds)
 
   pub going_start : (names : List ℕ) → length names ≡ 64 → Started ks s starts callers mask from
       → Going ks s starts callers mask from from names mask 0
   going_start names f st = record {
     long = refl;
-    names-long = f;
+    names_long = f;
     within = λ q h. h;
     below = rw (routines st.program ks s st.linked.holds) st.rising.below;
     swept = omega arith;
-    partly = λ P before k p. partly-as P (Has mask) before from [] names (Has mask) (Has mask)
+    partly = λ P before k p. partly_as P (Has mask) before from [] names (Has mask) (Has mask)
         (λ r t n. absurd (n t)) p;
   }
 
   module _ (model names : List ℕ) (left last r : ℕ) (go : Going ks s starts callers mask from model names left last)
       (bit : Has left r) where
     pub listed : r < length ks
-    listed = has-below left (length ks) r go.below bit
+    listed = has_below left (length ks) r go.below bit
 
     at_body : (P : Program) → Linked P ks s starts callers → BodyOf P ks s (get_or starts r 0) r
     at_body P k =
@@ -101,15 +101,15 @@ module _ (ks s starts callers : List ℕ) (mask : ℕ) (from : List ℕ) where
         let l : r < length P = omega arith in
         record { holds = k.holds; listed = l; starts = k.start r l }
 
-    pub starts-there : Started ks s starts callers mask from → r < length starts
-    starts-there st =
+    pub starts_there : Started ks s starts callers mask from → r < length starts
+    starts_there st =
         let e = routines st.program ks s st.linked.holds in
-        let f = st.linked.starts-long in
+        let f = st.linked.starts_long in
         let b = listed in
         omega arith
 
-    pub row-ready : Started ks s starts callers mask from → RowReady ks s (get_or starts r 0) r model model
-    row-ready st =
+    pub row_ready : Started ks s starts callers mask from → RowReady ks s (get_or starts r 0) r model model
+    row_ready st =
         let b = at_body st.program st.linked in
         let l = st.long in
         let g = go.long in
@@ -126,23 +126,23 @@ module _ (ks s starts callers : List ℕ) (mask : ℕ) (from : List ℕ) where
     rest = left - (1 * 2 ^ r) % 18446744073709551616
 
     module _ (few : length ks ≤ 64) where
-      pub taken-off : (1 * 2 ^ r) % 18446744073709551616 ≤ left
-      taken-off = taken (length ks) left r few go.below bit
+      pub taken_off : (1 * 2 ^ r) % 18446744073709551616 ≤ left
+      taken_off = taken (length ks) left r few go.below bit
 
-      rest-off : Bits rest (λ j. (j ≢ r) × Has left j)
-      rest-off = rest-bits (length ks) left r few go.below bit
+      rest_off : Bits rest (λ j. (j ≢ r) × Has left j)
+      rest_off = rest_bits (length ks) left r few go.below bit
 
       low : rest < 2 ^ length ks
       low = rest_below (length ks) left r few go.below bit
 
-      callers-below : Started ks s starts callers mask from → get_or callers r 0 < 2 ^ length ks
-      callers-below st = rw (routines st.program ks s st.linked.holds) (st.linked.callers-below.1 r)
+      callers_below : Started ks s starts callers mask from → get_or callers r 0 < 2 ^ length ks
+      callers_below st = rw (routines st.program ks s st.linked.holds) (st.linked.callers_below.1 r)
 
-      pub masks-fit : Started ks s starts callers mask from → (rest < 2 ^ 64) × (get_or callers r 0 < 2 ^ 64)
-      masks-fit st =
+      pub masks_fit : Started ks s starts callers mask from → (rest < 2 ^ 64) × (get_or callers r 0 < 2 ^ 64)
+      masks_fit st =
           let g : 2 ^ length ks ≤ 2 ^ 64 = grows (length ks) 64 few in
           let b = low in
-          let m = callers-below st in
+          let m = callers_below st in
           (omega arith, omega arith)
 
       -- what was due is r, or still due
@@ -151,7 +151,7 @@ module _ (ks s starts callers : List ℕ) (mask : ℕ) (from : List ℕ) where
         where
           step : Dec (q ≡ r) → (q ≡ r) ⊎ Has rest q
           step (yes e) = inl e
-          step (no n) = inr (rest-off.from q (n, h))
+          step (no n) = inr (rest_off.from q (n, h))
 
       module _ (after : List ℕ) (cells last_byte : Bool) (x : ℕ)
           (imp : Improves ks s (get_or starts r 0) r model model after cells last_byte x)
@@ -160,7 +160,7 @@ module _ (ks s starts callers : List ℕ) (mask : ℕ) (from : List ℕ) where
         listed_at P k q h =
             let e = routines P ks s k.holds in
             let f = routines st.program ks s st.linked.holds in
-            let l = has-below mask (length st.program) q st.rising.below h in
+            let l = has_below mask (length st.program) q st.rising.below h in
             omega arith
 
         turn : (next : ℕ) → next < 2 ^ length ks → ((q : ℕ) → Has next q → Has mask q) → ((q : ℕ) → Has rest q → Has
@@ -171,51 +171,51 @@ module _ (ks s starts callers : List ℕ) (mask : ℕ) (from : List ℕ) where
             → Going ks s starts callers mask from after (set names r x) next r
         turn next b m f g = record {
           long = same_length ∙ go.long;
-          names-long = length-set names r x ∙ go.names-long;
+          names_long = length-set names r x ∙ go.names_long;
           within = m;
           below = b;
           swept = let l = listed in omega arith;
           partly = λ P before k p.
               let o = at_body P k in
-              improved-partly P (Has mask) (has? mask) (listed_at P k) before model after names r cells last_byte x
+              improved_partly P (Has mask) (has? mask) (listed_at P k) before model after names r cells last_byte x
               (go.within r bit) (Has left) (go.partly P before k p)
-              (imp P o) (let l = listed in let f = go.names-long in omega arith) (Has next)
+              (imp P o) (let l = listed in let f = go.names_long in omega arith) (Has next)
               (λ q h. ⊎_elim (λ e. inl e) (λ x. inr (f q x)) (still q h)) (λ e. g e P k);
         }
 
-        from-mask : (q : ℕ) → Has rest q → Has mask q
-        from-mask q h = go.within q (rest-off.to q h).1
+        from_mask : (q : ℕ) → Has rest q → Has mask q
+        from_mask q h = go.within q (rest_off.to q h).1
 
-        pub turn-changed : Going ks s starts callers mask from after (set names r x) (bit_or rest (get_or callers r 0)) r
-        turn-changed = turn (bit_or rest (get_or callers r 0))
-            (or_lt (length ks) rest (get_or callers r 0) low (callers-below st))
-            (λ q h. ⊎_elim (from-mask q) (λ y. st.rising.closed r q (go.within r bit) y)
-            (has-or rest (get_or callers r 0) q h))
+        pub turn_changed : Going ks s starts callers mask from after (set names r x) (bit_or rest (get_or callers r 0)) r
+        turn_changed = turn (bit_or rest (get_or callers r 0))
+            (or_lt (length ks) rest (get_or callers r 0) low (callers_below st))
+            (λ q h. ⊎_elim (from_mask q) (λ y. st.rising.closed r q (go.within r bit) y)
+            (has_or rest (get_or callers r 0) q h))
             (λ q h. has_left rest (get_or callers r 0) q h)
-            (λ e P k q lq w. has_right rest (get_or callers r 0) q (k.callers-of r q lq w))
+            (λ e P k q lq w. has_right rest (get_or callers r 0) q (k.callers_of r q lq w))
 
         moves : Moves (cells || last_byte) model after
         moves = (imp st.program (at_body st.program st.linked)).added.told
 
         pub less_then : cells ≡ true → ((i : ℕ) → get_or after i 0 < 256)
-            → (next : ℕ) → next < 36893488147419103232 → size-left after next < size-left model left
+            → (next : ℕ) → next < 36893488147419103232 → size_left after next < size_left model left
         less_then e bytes next b =
-            less-changed model after left next (cells || last_byte) (rw e) same_length bytes moves b
+            less_changed model after left next (cells || last_byte) (rw e) same_length bytes moves b
 
-        pub less-else : cells ≡ false → ((i : ℕ) → get_or after i 0 < 256) → size-left after rest < size-left model left
-        less-else e bytes =
+        pub less_else : cells ≡ false → ((i : ℕ) → get_or after i 0 < 256) → size_left after rest < size_left model left
+        less_else e bytes =
             let g : 2 ^ length ks ≤ 2 ^ 64 = grows (length ks) 64 few in
             let b = go.below in
-            less-cells model after left rest cells last_byte e same_length bytes moves
-            (rest-less (length ks) left r few go.below bit) (omega arith)
+            less_cells model after left rest cells last_byte e same_length bytes moves
+            (rest_less (length ks) left r few go.below bit) (omega arith)
 
-        pub turn-same : cells ≡ false → Going ks s starts callers mask from after (set names r x) rest r
-        turn-same e = turn rest low from-mask (λ q h. h)
+        pub turn_same : cells ≡ false → Going ks s starts callers mask from after (set names r x) rest r
+        turn_same e = turn rest low from_mask (λ q h. h)
             (λ z. absurd (let o : ◌≡◌ {A = ℕ} 0 1 = cc in omega arith))
 
   pub all_done : (model names : List ℕ) (left last : ℕ) → left ≡ 0
       → Going ks s starts callers mask from model names left last → Settles ks s starts callers mask from model names
   all_done model names left last e go P before k p =
       let q = go.partly P before k p in
-      partly-as P (Has mask) before model names names (Has left) (λ r. ⊥)
-      (λ r t n. q.fresh r t (λ h. has-zero r (rw e at h))) q
+      partly_as P (Has mask) before model names names (Has left) (λ r. ⊥)
+      (λ r t n. q.fresh r t (λ h. has_zero r (rw e at h))) q

@@ -15,10 +15,10 @@ use Rattle.rules.specs.Verdict.{Calls}
 use Rattle.rules.specs.Derived.{RowOf}
 use Rattle.rows.specs.Bytes.{RowBits, RingByte, RowsOf}
 use Rattle.rows.specs.Model.{RowAdded, GridRow, HasRing}
-use Rattle.rows.specs.laws.Fixpoint.{calls-only, up-to-date-kept}
-use Rattle.rows.specs.laws.Cells.{apart, row-moves}
+use Rattle.rows.specs.Laws.Fixpoint.{calls-only, up-to-date-kept}
+use Rattle.rows.specs.Laws.Cells.{apart, row_moves}
 use Rattle.rounds.specs.Given.{RowsWith}
-use Rattle.rounds.specs.laws.LeastGiven.{Within, derived-mono, with-satisfies}
+use Rattle.rounds.specs.Laws.LeastGiven.{Within, derived_mono, with_satisfies}
 use Rattle.settle.specs.Settle.{WorkedOut, Named, Fresh, Whole, PartlyWith, Improved}
 
 module _ (P : Program) (T : ℕ → Type 0) (T? : (q : ℕ) → Dec (T q)) (listed : (q : ℕ) → T q → q < length P)
@@ -48,30 +48,30 @@ module _ (P : Program) (T : ℕ → Type 0) (T? : (q : ℕ) → Dec (T q)) (list
       go : Dec (T q) → RowsWith P T (RowsOf (length P) before) (Whole P T before) q a b l
       go (yes t) = inl (t, part.sound q a b l t w)
       go (no n) =
-          inr (n, row-moves (length P) model before q a b l (λ i h. sym (part.others q i w.0 n (omega arith))) w)
+          inr (n, row_moves (length P) model before q a b l (λ i h. sym (part.others q i w.0 n (omega arith))) w)
 
   -- so only those are worked out from them
-  whole-step : (a b : ℕ) (l : Label) → WorkedOut P model r a b l → Whole P T before r a b l
-  whole-step a b l w =
-      with-satisfies P T (RowsOf (length P) before) r a b l
-      (derived-mono P (RowsOf (length P) model) (RowsWith P T (RowsOf (length P) before) (Whole P T before)) in_whole
+  whole_step : (a b : ℕ) (l : Label) → WorkedOut P model r a b l → Whole P T before r a b l
+  whole_step a b l w =
+      with_satisfies P T (RowsOf (length P) before) r a b l
+      (derived_mono P (RowsOf (length P) model) (RowsWith P T (RowsOf (length P) before) (Whole P T before)) in_whole
       r a b l w)
 
-  new-sound : (q a b : ℕ) (l : Label) → T q → RowsOf (length P) after q a b l → RowOf P (Whole P T before) q a b l
-  new-sound q a b l t w = ⊎_elim (λ p. part.sound q a b l t p) (λ p. rw p.0 (row p.1)) (split q a b l w)
+  new_sound : (q a b : ℕ) (l : Label) → T q → RowsOf (length P) after q a b l → RowOf P (Whole P T before) q a b l
+  new_sound q a b l t w = ⊎_elim (λ p. part.sound q a b l t p) (λ p. rw p.0 (row p.1)) (split q a b l w)
     where
       row : RowOf P (WorkedOut P model) r a b l → RowOf P (Whole P T before) r a b l
-      row p = (p.0, whole-step a b p.0 p.1, p.2, p.3, p.4, p.5)
+      row p = (p.0, whole_step a b p.0 p.1, p.2, p.3, p.4, p.5)
 
-  new-ring-sound : (q : ℕ) → T q → RingByte after q → (x : ℕ) × Whole P T before q x x several
-  new-ring-sound q t b = ⊎_elim (λ x. part.ring-sound q t x) (λ x. ring x) (add.ring-only q b)
+  new_ring_sound : (q : ℕ) → T q → RingByte after q → (x : ℕ) × Whole P T before q x x several
+  new_ring_sound q t b = ⊎_elim (λ x. part.ring_sound q t x) (λ x. ring x) (add.ring_only q b)
     where
       ring : (q ≡ r) × HasRing imp.grid → (x : ℕ) × Whole P T before q x x several
       ring x =
           let y = x.1 in (
             y.0,
             subst (λ (v : ℕ). Whole P T before v y.0 y.0 several) (sym x.0)
-                (whole-step y.0 y.0 several (imp.pairs.only y.0 y.0 several y.1)),
+                (whole_step y.0 y.0 several (imp.pairs.only y.0 y.0 several y.1)),
           )
 
   -- the rows of the others are as they were
@@ -91,62 +91,62 @@ module _ (P : Program) (T : ℕ → Type 0) (T? : (q : ℕ) → Dec (T q)) (list
     forth : (a b : ℕ) (l : Label) → WorkedOut P model q a b l → WorkedOut P after q a b l
     forth = calls-only P (RowsOf (length P) model) (RowsOf (length P) after) q (λ p a b l k. keeps p a b l)
 
-    stays-named : (y : ℕ) → Named P model q y → Named P after q y
-    stays-named y n = record {
+    stays_named : (y : ℕ) → Named P model q y → Named P after q y
+    stays_named y n = record {
       ring = λ l. forth y y several (n.ring l);
       lowest = λ z w. n.lowest z (back z z several w);
     }
 
-    stays-fresh : q ≢ r → Fresh P model names q → Fresh P after renamed q
-    stays-fresh m f = record {
+    stays_fresh : q ≢ r → Fresh P model names q → Fresh P after renamed q
+    stays_fresh m f = record {
       row = up-to-date-kept P (RowsOf (length P) model) (RowsOf (length P) after) q (keeps q) same f.row;
-      ring = λ y w. add.ring-old q (f.ring y (back y y several w));
-      name = rw (get_or-set_other names r q x 0 m) (stays-named (get_or names q 0) f.name);
+      ring = λ y w. add.ring_old q (f.ring y (back y y several w));
+      name = rw (get_or-set_other names r q x 0 m) (stays_named (get_or names q 0) f.name);
     }
 
-    becomes-fresh : q ≡ r → Fresh P after renamed q
-    becomes-fresh e = record {
+    becomes_fresh : q ≡ r → Fresh P after renamed q
+    becomes_fresh e = record {
       row = λ a b m w ha hb ne. (
         lq,
         subst (λ (v : ℕ). RowBits after v a b (cut m)) (sym e)
-            (add.new a b (cut m) (m, imp.pairs.all a b m (at-r (back a b m w)), up ha, up hb, ne, refl)),
+            (add.new a b (cut m) (m, imp.pairs.all a b m (at_r (back a b m w)), up ha, up hb, ne, refl)),
       );
-      ring = λ y w. subst (RingByte after) (sym e) (add.ring-new (
+      ring = λ y w. subst (RingByte after) (sym e) (add.ring_new (
         y,
         imp.pairs.all y y several
-            (at-r (back y y several w)),
+            (at_r (back y y several w)),
       ));
-      name = stays-named (get_or renamed q 0) (rw (e, get_or-set_same names r x 0 place) imp.named);
+      name = stays_named (get_or renamed q 0) (rw (e, get_or-set_same names r x 0 place) imp.named);
     }
       where
-        at-r : {a b : ℕ} {m : Label} → WorkedOut P model q a b m → WorkedOut P model r a b m
-        at-r {a} {b} {m} w = subst (λ (v : ℕ). WorkedOut P model v a b m) e w
+        at_r : {a b : ℕ} {m : Label} → WorkedOut P model q a b m → WorkedOut P model r a b m
+        at_r {a} {b} {m} w = subst (λ (v : ℕ). WorkedOut P model v a b m) e w
 
         up : {a : ℕ} → a ≤ params P q → a ≤ params P r
         up {a} h = subst (λ (v : ℕ). a ≤ params P v) e h
 
   -- what is due afterwards: what was due but r, and, where a cell changed, its callers
-  pub improved-partly : (next : ℕ → Type 0) → ((q : ℕ) → due q → (q ≡ r) ⊎ next q)
+  pub improved_partly : (next : ℕ → Type 0) → ((q : ℕ) → due q → (q ≡ r) ⊎ next q)
       → (cells ≡ true → (q : ℕ) → q < length P → Calls (body P q) r → next q)
       → PartlyWith P T before after renamed next
-  improved-partly next left callers = record {
+  improved_partly next left callers = record {
     long = add.long ∙ part.long;
     rest = λ i h. let lt = listed r tr in add.outside i (inr (omega arith)) ∙ part.rest i h;
     others = new_others;
     shaped = add.shaped (length P) part.shaped;
-    sound = new-sound;
-    ring-sound = new-ring-sound;
+    sound = new_sound;
+    ring_sound = new_ring_sound;
     fresh = λ q t n. fresh q (listed q t) t n (ℕ_discrete q r);
   }
     where
       unchanged : (b : Bool) → cells ≡ b → (q : ℕ) → q < length P → (next q → ⊥) → (p a b : ℕ) (l : Label)
           → Calls (body P q) p → RowsOf (length P) after p a b l → RowsOf (length P) model p a b l
       unchanged false e q lq n p a b l k w =
-          row-moves (length P) after model p a b l (λ i h. sym (add.same-cells e p i h)) w
+          row_moves (length P) after model p a b l (λ i h. sym (add.same_cells e p i h)) w
       unchanged true e q lq n p a b l k w =
           ⊎_elim (λ x. x) (λ x. absurd (n (callers e q lq (rw x.0 at k)))) (split p a b l w)
 
       fresh : (q : ℕ) → q < length P → T q → (next q → ⊥) → Dec (q ≡ r) → Fresh P after renamed q
-      fresh q lq t n (yes e) = becomes-fresh q lq (unchanged cells refl q lq n) e
-      fresh q lq t n (no m) = stays-fresh q lq (unchanged cells refl q lq n) m
+      fresh q lq t n (yes e) = becomes_fresh q lq (unchanged cells refl q lq n) e
+      fresh q lq t n (no m) = stays_fresh q lq (unchanged cells refl q lq n) m
           (part.fresh q t (λ d. ⊎_elim (λ e. m e) n (left q d)))

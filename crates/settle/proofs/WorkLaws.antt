@@ -8,35 +8,35 @@ use lib.ListN.{length, get_or, drop}
 use Rattle.table.specs.Constants.{END}
 use Rattle.table.specs.Program.{body}
 use Rattle.table.specs.Encoding.{encode}
-use Rattle.table.specs.laws.Formed.{well-formed}
+use Rattle.table.specs.Laws.Formed.{well_formed}
 use Rattle.rules.specs.Label.{Label}
-use Rattle.rules.specs.Model.{atHead}
+use Rattle.rules.specs.Model.{at_head}
 use Rattle.rules.specs.Derived.{RecordedFrom, Closed, KeptFrom}
 use Rattle.grid.specs.Grid.{Pair, Small, AllKept, Empty, Closure}
 use Rattle.rows.specs.Bytes.{RowBits, RowsOf}
-use Rattle.rows.specs.laws.Fixpoint.{closed-mono, recorded-calls}
-use Rattle.table.specs.laws.Fine.{IsBody}
+use Rattle.rows.specs.Laws.Fixpoint.{closed-mono, recorded-calls}
+use Rattle.table.specs.Laws.Fine.{IsBody}
 use Rattle.pairs.specs.Gains.{Gains}
-use Rattle.pairs.specs.Contracts.{Records}
+use Rattle.pairs.specs.Parts.{Records}
 use Rattle.settle.specs.Bodies.{BodyReady, Works}
-use Rattle.rules.specs.laws.Verdict.{body-calls}
-use Rattle.table.specs.laws.Sections.{routines}
-use Rattle.settle.specs.laws.Surveys.{rest, fine-here, bytes-here, is_body}
+use Rattle.rules.specs.Laws.Verdict.{body_calls}
+use Rattle.table.specs.Laws.Sections.{routines}
+use Rattle.settle.specs.Laws.Surveys.{rest, fine_here, bytes_here, is_body}
 
 module _ (ks s : List ℕ) (at r : ℕ) (rows : List ℕ) where
-  pub can-record : BodyReady ks s at r rows → IsBody ks (get_or ks r 0) s at × (65 * length ks ≤ length rows)
-  can-record b =
+  pub can_record : BodyReady ks s at r rows → IsBody ks (get_or ks r 0) s at × (65 * length ks ≤ length rows)
+  can_record b =
       let o = b.body_of in
       let e = routines b.program ks s o.holds in
       let l = b.long in
       (is_body b.program ks s o.holds r o.listed at o.starts, omega arith)
 
   -- what is recorded from an empty grid can be closed
-  pub can-close : (e g : List (List ℕ)) → BodyReady ks s at r rows → Empty e
+  pub can_close : (e g : List (List ℕ)) → BodyReady ks s at r rows → Empty e
       → Records ks (get_or ks r 0) s at rows e g
       → Small g × AllKept g
-  can-close e g b em rec =
-      let c = (can-record b).0 in
+  can_close e g b em rec =
+      let c = (can_record b).0 in
       let q = rec c.0 c.1 c.2 c.3 in
       (q.small, q.kept em.kept)
 
@@ -45,30 +45,30 @@ module _ (ks s : List ℕ) (at r : ℕ) (rows : List ℕ) where
   works e g c em rec cl P o = record { only = only; all = all }
     where
       bytes : drop at s ≡ encode END (body P r) ++ rest P ks s o.holds r o.listed
-      bytes = ap (λ (v : ℕ). drop v s) o.starts ∙ bytes-here P ks s o.holds r o.listed
+      bytes = ap (λ (v : ℕ). drop v s) o.starts ∙ bytes_here P ks s o.holds r o.listed
 
-      gains : Gains e (RecordedFrom (RowBits rows) (body P r) atHead) g
-      gains = rec (body P r) _ (fine-here P ks s o.holds r o.listed) bytes
+      gains : Gains e (RecordedFrom (RowBits rows) (body P r) at_head) g
+      gains = rec (body P r) _ (fine_here P ks s o.holds r o.listed) bytes
 
       -- the rows of the routines that the body calls are rows of the program
-      to-rows : (a b : ℕ) (l : Label) → Pair g a b l → KeptFrom (RowsOf (length P) rows) (body P r) a b l
-      to-rows a b l p =
+      to_rows : (a b : ℕ) (l : Label) → Pair g a b l → KeptFrom (RowsOf (length P) rows) (body P r) a b l
+      to_rows a b l p =
           let w = ⊎_elim (λ q. absurd (em.none a b l q)) (λ q. q) (gains.only a b l p) in (
             recorded-calls (RowBits rows) (RowsOf (length P) rows) (body P r)
-                (λ q x y m k h. (body-calls P (well-formed P o.holds.limits) r q o.listed k, h)) atHead a b l
+                (λ q x y m k h. (body_calls P (well_formed P o.holds.limits) r q o.listed k, h)) at_head a b l
                 w.0,
             w.1,
           )
 
-      from-rows : (a b : ℕ) (l : Label) → KeptFrom (RowsOf (length P) rows) (body P r) a b l → Pair g a b l
-      from-rows a b l w =
+      from_rows : (a b : ℕ) (l : Label) → KeptFrom (RowsOf (length P) rows) (body P r) a b l → Pair g a b l
+      from_rows a b l w =
           gains.new a b l
-          (recorded-calls (RowsOf (length P) rows) (RowBits rows) (body P r) (λ q x y m k h. h.1) atHead
+          (recorded-calls (RowsOf (length P) rows) (RowBits rows) (body P r) (λ q x y m k h. h.1) at_head
           a b l w.0)
           w.1
 
       only : (a b : ℕ) (l : Label) → Pair c a b l → Closed (KeptFrom (RowsOf (length P) rows) (body P r)) a b l
-      only a b l p = closed-mono (Pair g) (KeptFrom (RowsOf (length P) rows) (body P r)) to-rows (cl.only a b l p)
+      only a b l p = closed-mono (Pair g) (KeptFrom (RowsOf (length P) rows) (body P r)) to_rows (cl.only a b l p)
 
       all : (a b : ℕ) (l : Label) → Closed (KeptFrom (RowsOf (length P) rows) (body P r)) a b l → Pair c a b l
-      all a b l w = cl.all a b l (closed-mono (KeptFrom (RowsOf (length P) rows) (body P r)) (Pair g) from-rows w)
+      all a b l w = cl.all a b l (closed-mono (KeptFrom (RowsOf (length P) rows) (body P r)) (Pair g) from_rows w)

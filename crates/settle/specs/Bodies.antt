@@ -1,10 +1,10 @@
 -- Where the bodies stand in the section, what a survey of them gives, and what the functions of `lib.rt` are given and
 -- leave.
 use Rattle.std.specs.Prelude.{◌≡◌, Bool, List, [], ◌∷◌, ℕ, zero, suc, ◌+◌, ◌*◌, ◌^◌, ◌≤◌, ◌<◌, length, get_or, take}
-use Rattle.table.specs.Constants.{END, row-bytes}
+use Rattle.table.specs.Constants.{END, row_bytes}
 use Rattle.table.specs.Program.{Program, body}
 use Rattle.table.specs.Encoding.{encode}
-use Rattle.table.specs.laws.Sections.{Holds}
+use Rattle.table.specs.Laws.Sections.{Holds}
 use Rattle.rules.specs.Verdict.{Calls}
 use Rattle.grid.specs.Rows.{Has}
 use Rattle.rows.specs.Model.{ShapedRow}
@@ -27,7 +27,7 @@ pub record BodyOf (P : Program) (ks s : List ℕ) (at r : ℕ) : Type 0 where
 pub record BodyReady (ks s : List ℕ) (at r : ℕ) (rows : List ℕ) : Type 0 where
   pub program : Program
   pub body_of : BodyOf program ks s at r
-  pub long : row-bytes * length program ≤ length rows
+  pub long : row_bytes * length program ≤ length rows
 
 -- the grid has what is worked out in the body of routine r, which is at the offset
 abbrev pub Works : List ℕ → List ℕ → ℕ → ℕ → List ℕ → List (List ℕ) → Type 0
@@ -38,8 +38,8 @@ Works ks s at r rows g = (P : Program) → BodyOf P ks s at r → GridOf P rows 
 pub record RowReady (ks s : List ℕ) (at r : ℕ) (rows model : List ℕ) : Type 0 where
   pub program : Program
   pub body_of : BodyOf program ks s at r
-  pub rows_long : row-bytes * length program ≤ length rows
-  pub long : row-bytes * length program ≤ length model
+  pub rows_long : row_bytes * length program ≤ length rows
+  pub long : row_bytes * length program ≤ length model
   pub shaped : ShapedRow model r
 
 -- the row of routine r was worked out again from the rows, and x is its ring name
@@ -50,15 +50,15 @@ Improves ks s at r rows before after cells last x =
 -- where the bodies start, and what each calls, as bits
 pub record Surveyed (P : Program) (starts calls : List ℕ) : Type 0 where
   pub start : (r : ℕ) → r < length P → get_or starts r 0 ≡ start_of P r
-  pub calls-to : (r q : ℕ) → r < length P → Has (get_or calls r 0) q → Calls (body P r) q
-  pub calls-from : (r q : ℕ) → r < length P → Calls (body P r) q → Has (get_or calls r 0) q
-  pub starts-long : length starts ≡ length P
-  pub calls-long : length calls ≡ length P
+  pub calls_to : (r q : ℕ) → r < length P → Has (get_or calls r 0) q → Calls (body P r) q
+  pub calls_from : (r q : ℕ) → r < length P → Calls (body P r) q → Has (get_or calls r 0) q
+  pub starts_long : length starts ≡ length P
+  pub calls_long : length calls ≡ length P
 
 -- the two arrays of a survey, cut to the routines, tell of the bodies
 pub record Surveys (ks s starts calls : List ℕ) : Type 0 where
-  pub starts-long : length starts ≡ 64
-  pub calls-long : length calls ≡ 64
+  pub starts_long : length starts ≡ 64
+  pub calls_long : length calls ≡ 64
   pub told : (P : Program) → Holds P ks s → Surveyed P (take (length ks) starts) (take (length ks) calls)
 
 -- P is held and surveyed
@@ -70,10 +70,10 @@ pub record Known (P : Program) (ks s starts calls : List ℕ) : Type 0 where
 pub record Linked (P : Program) (ks s starts callers : List ℕ) : Type 0 where
   pub holds : Holds P ks s
   pub start : (r : ℕ) → r < length P → get_or starts r 0 ≡ start_of P r
-  pub starts-long : length starts ≡ length P
-  pub callers-of : (r q : ℕ) → q < length P → Calls (body P q) r → Has (get_or callers r 0) q
-  pub callers-only : (r q : ℕ) → Has (get_or callers r 0) q → (q < length P) × Calls (body P q) r
-  pub callers-below : Below callers (length P)
+  pub starts_long : length starts ≡ length P
+  pub callers_of : (r q : ℕ) → q < length P → Calls (body P q) r → Has (get_or callers r 0) q
+  pub callers_only : (r q : ℕ) → Has (get_or callers r 0) q → (q < length P) × Calls (body P q) r
+  pub callers_below : Below callers (length P)
 
 -- a mask of routines of the program to which each caller of one of it belongs
 pub record Rising (P : Program) (callers : List ℕ) (mask : ℕ) : Type 0 where
@@ -85,7 +85,7 @@ pub record Started (ks s starts callers : List ℕ) (mask : ℕ) (model : List �
   pub program : Program
   pub linked : Linked program ks s starts callers
   pub rising : Rising program callers mask
-  pub long : row-bytes * length program ≤ length model
+  pub long : row_bytes * length program ≤ length model
   pub before : List ℕ
   pub partly : PartlyWith program (Has mask) before model [] (Has mask)
 

@@ -3,4 +3,4 @@ pub mod Reach
 pub mod Due
 pub mod Settle
 pub mod Bodies
-pub mod laws
+pub mod Laws

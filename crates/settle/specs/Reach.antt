@@ -1,6 +1,6 @@
 -- Reachability over call masks: what `reach.rt` works out.
 use Rattle.std.specs.Prelude.{◌≡◌, List, ℕ, ◌≤◌, ◌<◌, length, get_or}
-use Rattle.table.specs.Constants.{most-routines}
+use Rattle.table.specs.Constants.{most_routines}
 use Rattle.grid.specs.Rows.{Has}
 
 -- routine r calls routine q
@@ -15,5 +15,5 @@ pub data Reachable (calls : List ℕ) (from : ℕ) : ℕ → Type 0 where
 -- the calls can be followed: routine `from` is there, and so is each routine that one calls
 pub record CanReach (calls : List ℕ) (from : ℕ) : Type 0 where
   pub there : from < length calls
-  pub few : length calls ≤ most-routines
+  pub few : length calls ≤ most_routines
   pub within : (r q : ℕ) → CallBit calls r q → q < length calls

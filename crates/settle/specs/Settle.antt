@@ -7,9 +7,9 @@ use Rattle.rules.specs.Derived.{Pairs, RowOf, Derived}
 use Rattle.grid.specs.Grid.{Pair}
 use Rattle.rows.specs.Bytes.{RingByte, RowsOf}
 use Rattle.rows.specs.Model.{Shaped, RowAdded}
-use Rattle.rows.specs.laws.Fixpoint.{Sound, UpToDate}
+use Rattle.rows.specs.Laws.Fixpoint.{Sound, UpToDate}
 use Rattle.rounds.specs.Given.{ModelWith}
-use Rattle.table.specs.Constants.{row-bytes}
+use Rattle.table.specs.Constants.{row_bytes}
 
 -- the pairs worked out in the body of routine r from the rows in the buffer
 abbrev pub WorkedOut : Program → List ℕ → Pairs
@@ -29,10 +29,10 @@ pub record Fresh (P : Program) (model names : List ℕ) (r : ℕ) : Type 0 where
 -- the rows have nothing that the model lacks, and all are fresh; the rest is as it was before
 pub record AllFresh (P : Program) (before model names : List ℕ) : Type 0 where
   pub long : length model ≡ length before
-  pub rest : (i : ℕ) → row-bytes * length P ≤ i → get_or model i 0 ≡ get_or before i 0
+  pub rest : (i : ℕ) → row_bytes * length P ≤ i → get_or model i 0 ≡ get_or before i 0
   pub shaped : Shaped (length P) model
   pub sound : Sound P (RowsOf (length P) model)
-  pub ring-sound : (r : ℕ) → r < length P → RingByte model r → (x : ℕ) × Ring P r x
+  pub ring_sound : (r : ℕ) → r < length P → RingByte model r → (x : ℕ) × Ring P r x
   pub fresh : (r : ℕ) → r < length P → Fresh P model names r
 
 -- the least pairs with the rows of the buffer taken as given, but for the routines of T
@@ -43,12 +43,12 @@ Whole P T before = ModelWith P T (RowsOf (length P) before)
 -- fresh; the rows of the others are given, and as they were before, and so is the rest
 pub record PartlyWith (P : Program) (T : ℕ → Type 0) (before model names : List ℕ) (due : ℕ → Type 0) : Type 0 where
   pub long : length model ≡ length before
-  pub rest : (i : ℕ) → row-bytes * length P ≤ i → get_or model i 0 ≡ get_or before i 0
-  pub others : (q i : ℕ) → q < length P → (T q → ⊥) → i < row-bytes
-      → get_or model (row-bytes * q + i) 0 ≡ get_or before (row-bytes * q + i) 0
+  pub rest : (i : ℕ) → row_bytes * length P ≤ i → get_or model i 0 ≡ get_or before i 0
+  pub others : (q i : ℕ) → q < length P → (T q → ⊥) → i < row_bytes
+      → get_or model (row_bytes * q + i) 0 ≡ get_or before (row_bytes * q + i) 0
   pub shaped : Shaped (length P) model
   pub sound : (r a b : ℕ) (l : Label) → T r → RowsOf (length P) model r a b l → RowOf P (Whole P T before) r a b l
-  pub ring-sound : (r : ℕ) → T r → RingByte model r → (x : ℕ) × Whole P T before r x x several
+  pub ring_sound : (r : ℕ) → T r → RingByte model r → (x : ℕ) × Whole P T before r x x several
   pub fresh : (r : ℕ) → T r → (due r → ⊥) → Fresh P model names r
 
 -- the grid has the pairs worked out in the body of routine r from the rows in the buffer

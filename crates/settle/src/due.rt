@@ -1,6 +1,6 @@
 // The routines whose rows are due, as bits.
 ghost use Rattle.std.specs.Prelude.{◌≤◌, ◌<◌, length};
-ghost use Rattle.table.specs.Constants.{most-routines};
+ghost use Rattle.table.specs.Constants.{most_routines};
 ghost use Rattle.grid.specs.Rows.{Has};
 ghost use Rattle.settle.specs.Due.{Highest, All, Below, CallerAdded, Callers};
 
@@ -16,7 +16,7 @@ pub fn highest(mask: u64) -> usize
 
 // The routine of a mask that is next in a sweep downwards past `last`: routine 0 is left for when no other is due.
 pub fn next_due(left: u64, last: usize) -> usize
-    requires { (0 < left) × (last < most-routines) }
+    requires { (0 < left) × (last < most_routines) }
     ensures { Has left result }
 {
     let below = left % (1 << (last as u64));
@@ -29,7 +29,7 @@ pub fn next_due(left: u64, last: usize) -> usize
 
 // All routines below n.
 pub fn all(n: usize) -> u64
-    requires { n ≤ most-routines }
+    requires { n ≤ most_routines }
     ensures { All n result }
 {
     let mut mask = 0u64;
@@ -43,7 +43,7 @@ pub fn all(n: usize) -> u64
 
 // Adds routine r to the callers of each routine of the mask.
 fn add_caller(callers: &mut [u64; MOST_ROUTINES], mask: u64, r: usize)
-    requires { (r < most-routines) × Below callers.old r }
+    requires { (r < most_routines) × Below callers.old r }
     ensures { CallerAdded callers.old mask r callers.new }
 {
     let mut left = mask;
@@ -57,7 +57,7 @@ fn add_caller(callers: &mut [u64; MOST_ROUTINES], mask: u64, r: usize)
 
 // Leaves, for each routine, the routines that call it, where no caller is known.
 pub fn add_callers(calls: &[u64], callers: &mut [u64; MOST_ROUTINES])
-    requires { (length calls.now ≤ most-routines) × Below callers.old 0 }
+    requires { (length calls.now ≤ most_routines) × Below callers.old 0 }
     ensures { Callers calls.now callers.new }
 {
     let mut r = 0usize;

@@ -1,7 +1,7 @@
 // A survey of the bodies: where each starts, and what it calls.
 ghost use Rattle.std.specs.Prelude.{◌≡◌, length};
-ghost use Rattle.table.specs.Constants.{most-routines};
-ghost use Rattle.table.specs.laws.Sections.{Held};
+ghost use Rattle.table.specs.Constants.{most_routines};
+ghost use Rattle.table.specs.Laws.Sections.{Held};
 ghost use Rattle.settle.specs.Bodies.{Surveys};
 
 use pairs::{Scanned, scan};
@@ -14,7 +14,7 @@ pub fn survey_bodies(
     starts: &mut [usize; MOST_ROUTINES],
     calls: &mut [u64; MOST_ROUTINES],
 )
-    requires { Held ks.now s.now × (length starts.old ≡ most-routines) × (length calls.old ≡ most-routines) }
+    requires { Held ks.now s.now × (length starts.old ≡ most_routines) × (length calls.old ≡ most_routines) }
     ensures { Surveys ks.now s.now starts.new calls.new }
 {
     let mut at = 0usize;

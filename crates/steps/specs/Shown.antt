@@ -1,11 +1,11 @@
 -- How the lent records show the threads of a state.
 use Rattle.std.specs.Prelude.{◌≡◌, true, false, ◌⊎◌, List, [], ◌∷◌, ◌++◌, ℕ, ◌+◌, ◌*◌, ◌<◌, ◌≤◌, length, get_or, drop}
-use Rattle.table.specs.Constants.{Op, END, OTHER, most-names}
+use Rattle.table.specs.Constants.{Op, END, OTHER, most_names}
 use Rattle.table.specs.Program.{Code}
 use Rattle.table.specs.Encoding.{encode}
 use Rattle.table.specs.WellFormed.{In}
 use Rattle.run.specs.Run.{Env, Open, held, alternative, called, Frame, frame, Thread, ended, at, locks}
-use Rattle.schedule.specs.Limits.{most-locks}
+use Rattle.schedule.specs.Limits.{most_locks}
 use Rattle.steps.specs.declared.thread.Thread.{Thread as Record}
 
 -- the code, closed by an item of the kind z, stands at the offset `from` of the section; `to` is the offset after it
@@ -26,13 +26,13 @@ GoesOn s goes from c (frame called e d ∷ fs) =
 
 -- the entries at level d have the lock of each name
 abbrev pub NamesAt : List ℕ → ℕ → Env → Type 0
-NamesAt names d e = (x : ℕ) → x < most-names → get_or names (most-names * d + x) 0 ≡ e x
+NamesAt names d e = (x : ℕ) → x < most_names → get_or names (most_names * d + x) 0 ≡ e x
 
 -- the mark of what is open
 abbrev pub kind_of : Open → ℕ
 kind_of (held l) = l
-kind_of alternative = most-locks
-kind_of called = most-locks + 1
+kind_of alternative = most_locks
+kind_of called = most_locks + 1
 
 -- the marks and the names of the frames
 abbrev pub FramesAt : List ℕ → List ℕ → List Frame → Type 0
@@ -47,7 +47,7 @@ pub record ShowsAt (s : List ℕ) (c : Code) (e : Env) (fs : List Frame) (r : Re
   pub goes_on : GoesOn s r.goes r.at c fs
   pub names : NamesAt r.names (length fs) e
   pub frames : FramesAt r.kinds r.names fs
-  pub locks-low : (l : ℕ) → In l (locks fs) → l < most-locks
+  pub locks_low : (l : ℕ) → In l (locks fs) → l < most_locks
 
 -- the thread is shown by the record
 abbrev pub Shows : List ℕ → Thread → Record → Type 0

@@ -1,9 +1,9 @@
 // One step of one thread: the record and the machine in, the record and the machine out.
 ghost use Rattle.std.specs.Prelude.{◌≡◌, ◌+◌, ◌<◌, ◌≤◌};
-ghost use Rattle.schedule.specs.Limits.{most-locks};
+ghost use Rattle.schedule.specs.Limits.{most_locks};
 ghost use Rattle.steps.specs.Records.{Level};
-ghost use Rattle.steps.specs.Steps.{beyondAs, idleAs, doneAs, closeAs, endAs, newAs, lockAs, forkAs, choiceAs};
-ghost use Rattle.steps.specs.Steps.{side_of, callAs, mirrorAs, otherAs, operandOf, itemAs, stepAs, Counts, Goes};
+ghost use Rattle.steps.specs.Steps.{beyond_as, idle_as, done_as, close_as, end_as, new_as, lock_as, fork_as, choice_as};
+ghost use Rattle.steps.specs.Steps.{side_of, call_as, mirror_as, other_as, operand_of, item_as, step_as, Counts, Goes};
 ghost use Rattle.steps.specs.Steps.{Closes};
 ghost use Rattle.steps.specs.Steps.{Enters, News, Mirrors, Others, Operand, Locks, Forks, Calls, Items, Ready};
 
@@ -32,7 +32,7 @@ pub struct Ticked {
 
 // The step is beyond a limit: the record stays as it is.
 fn beyond(t: Thread, m: Machine) -> Ticked
-    ensures { result ≡ beyondAs t m }
+    ensures { result ≡ beyond_as t m }
 {
     let v = over(m, BEYOND);
     Ticked {
@@ -44,7 +44,7 @@ fn beyond(t: Thread, m: Machine) -> Ticked
 // The byte does nothing, but is counted.
 fn idle(schedule: &[u8], t: Thread, m: Machine) -> Ticked
     requires { Counts m }
-    ensures { result ≡ idleAs schedule.now t m }
+    ensures { result ≡ idle_as schedule.now t m }
 {
     let v = settled(counted(m), schedule);
     Ticked {
@@ -56,7 +56,7 @@ fn idle(schedule: &[u8], t: Thread, m: Machine) -> Ticked
 // The step was taken: the thread u wants what stands at its offset.
 fn done(s: &[u8], schedule: &[u8], u: Thread, m: Machine) -> Ticked
     requires { Goes s.now u m }
-    ensures { result ≡ doneAs s.now schedule.now u m }
+    ensures { result ≡ done_as s.now schedule.now u m }
 {
     let w = want(s, u, u.at);
     let n = wanting(counted(m), m.pick, w);
@@ -70,7 +70,7 @@ fn done(s: &[u8], schedule: &[u8], u: Thread, m: Machine) -> Ticked
 // END of what a frame opened: a call is returned from, or a hold given back.
 fn close(s: &[u8], schedule: &[u8], t: Thread, m: Machine) -> Ticked
     requires { Closes s.now t m }
-    ensures { result ≡ closeAs s.now schedule.now t m }
+    ensures { result ≡ close_as s.now schedule.now t m }
 {
     let kind = top_kind(t);
     if kind == CALLED {
@@ -86,7 +86,7 @@ fn close(s: &[u8], schedule: &[u8], t: Thread, m: Machine) -> Ticked
 // END: of the thread, or of its innermost frame.
 fn end(s: &[u8], schedule: &[u8], t: Thread, m: Machine) -> Ticked
     requires { Counts m × (1 ≤ t.depth → Closes s.now t m) }
-    ensures { result ≡ endAs s.now schedule.now t m }
+    ensures { result ≡ end_as s.now schedule.now t m }
 {
     let d = t.depth;
     if d == 0 {
@@ -104,7 +104,7 @@ fn end(s: &[u8], schedule: &[u8], t: Thread, m: Machine) -> Ticked
 // NEW, whose name is x.
 fn new(s: &[u8], schedule: &[u8], x: usize, t: Thread, m: Machine) -> Ticked
     requires { News s.now x t m }
-    ensures { result ≡ newAs s.now schedule.now x t m }
+    ensures { result ≡ new_as s.now schedule.now x t m }
 {
     let l = m.made;
     if MOST_LOCKS <= l {
@@ -116,7 +116,7 @@ fn new(s: &[u8], schedule: &[u8], x: usize, t: Thread, m: Machine) -> Ticked
 // MIRROR, whose name is x and whose operand stands for the lock l.
 fn mirror(s: &[u8], schedule: &[u8], x: usize, l: u8, t: Thread, m: Machine) -> Ticked
     requires { Mirrors s.now x l t m }
-    ensures { result ≡ mirrorAs s.now schedule.now x l t m }
+    ensures { result ≡ mirror_as s.now schedule.now x l t m }
 {
     done(s, schedule, bound(t, x, l, t.at + 2), m)
 }
@@ -124,7 +124,7 @@ fn mirror(s: &[u8], schedule: &[u8], x: usize, l: u8, t: Thread, m: Machine) -> 
 // OTHER, after whose choice the thread goes on at `next`.
 fn other(s: &[u8], schedule: &[u8], next: usize, t: Thread, m: Machine) -> Ticked
     requires { Others s.now next t m }
-    ensures { result ≡ otherAs s.now schedule.now next t m }
+    ensures { result ≡ other_as s.now schedule.now next t m }
 {
     done(s, schedule, left(t, next), m)
 }
@@ -132,7 +132,7 @@ fn other(s: &[u8], schedule: &[u8], next: usize, t: Thread, m: Machine) -> Ticke
 // The lock that the name after the item's code stands for.
 fn operand(s: &[u8], t: Thread) -> u8
     requires { Operand s.now t }
-    ensures { result ≡ operandOf s.now t }
+    ensures { result ≡ operand_of s.now t }
 {
     let at = t.at;
     lock_of(t, size(s[at + 1]))
@@ -141,7 +141,7 @@ fn operand(s: &[u8], t: Thread) -> u8
 // LOCK, of the lock l.
 fn lock(s: &[u8], schedule: &[u8], l: u8, t: Thread, m: Machine) -> Ticked
     requires { Locks s.now l t m }
-    ensures { result ≡ lockAs s.now schedule.now l t m }
+    ensures { result ≡ lock_as s.now schedule.now l t m }
 {
     let i = size(l);
     if waits(m, m.pick, i) {
@@ -156,7 +156,7 @@ fn lock(s: &[u8], schedule: &[u8], l: u8, t: Thread, m: Machine) -> Ticked
 // FORK, after whose block the thread goes on at `next`.
 fn fork(s: &[u8], next: usize, t: Thread, m: Machine) -> Ticked
     requires { Forks s.now next t m }
-    ensures { result ≡ forkAs s.now next t m }
+    ensures { result ≡ fork_as s.now next t m }
 {
     if crowded(m) {
         return beyond(t, m);
@@ -173,8 +173,8 @@ fn fork(s: &[u8], next: usize, t: Thread, m: Machine) -> Ticked
 
 // CHOICE, of the alternative at `to`.
 fn choice(s: &[u8], schedule: &[u8], to: usize, t: Thread, m: Machine) -> Ticked
-    requires { Level t × Enters s.now t m most-locks to m }
-    ensures { result ≡ choiceAs s.now schedule.now to t m }
+    requires { Level t × Enters s.now t m most_locks to m }
+    ensures { result ≡ choice_as s.now schedule.now to t m }
 {
     if full(m.pick, t.depth) {
         return beyond(t, m);
@@ -199,7 +199,7 @@ fn call(
     m: Machine,
 ) -> Ticked
     requires { Calls ks.now s.now heads.now t m }
-    ensures { result ≡ callAs ks.now s.now heads.now schedule.now t m }
+    ensures { result ≡ call_as ks.now s.now heads.now schedule.now t m }
 {
     if full(m.pick, t.depth) {
         return beyond(t, m);
@@ -222,7 +222,7 @@ fn item(
     m: Machine,
 ) -> Ticked
     requires { Items ks.now s.now heads.now links.now schedule.now t m }
-    ensures { result ≡ itemAs ks.now s.now heads.now links.now
+    ensures { result ≡ item_as ks.now s.now heads.now links.now
         schedule.now t m }
 {
     let at = t.at;
@@ -254,7 +254,7 @@ pub fn step(
     m: Machine,
 ) -> Ticked
     requires { Ready ks.now s.now heads.now links.now schedule.now t m }
-    ensures { result ≡ stepAs ks.now s.now heads.now links.now
+    ensures { result ≡ step_as ks.now s.now heads.now links.now
         schedule.now t m }
 {
     let stage = m.stage;

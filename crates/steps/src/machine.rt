@@ -1,11 +1,11 @@
 // What is kept beside the records while a schedule is run: the locks, what each thread wants, and what is to be done
 // next.
 ghost use Rattle.std.specs.Prelude.{◌≡◌, ◌+◌, ◌-◌, ◌<◌, ◌≤◌, ◌^◌, get_or};
-ghost use Rattle.schedule.specs.Limits.{most-threads, most-locks};
+ghost use Rattle.schedule.specs.Limits.{most_threads, most_locks};
 ghost use Rattle.steps.specs.Records.{Level};
-ghost use Rattle.steps.specs.Machines.{overAs, heldElsewhere, takenBy, givenBack, madeOne, wantsAs, want_at};
-ghost use Rattle.steps.specs.Machines.{joinAt, view};
-ghost use Rattle.steps.specs.Machines.{nextByte, settledAs, countedAs, startingAs, fullAt, crowdedAt, Item};
+ghost use Rattle.steps.specs.Machines.{over_as, held_elsewhere, taken_by, given_back, made_one, wants_as, want_at};
+ghost use Rattle.steps.specs.Machines.{join_at, view};
+ghost use Rattle.steps.specs.Machines.{next_byte, settled_as, counted_as, starting_as, full_at, crowded_at, Item};
 ghost use Rattle.steps.specs.Machines.{Wanting};
 
 use crate::limits::{FREE, GONE, MOST_FRAMES, MOST_LOCKS, MOST_THREADS};
@@ -52,7 +52,7 @@ pub struct Machine {
 
 // Nothing more is to be done.
 pub fn over(m: Machine, answer: u64) -> Machine
-    ensures { result ≡ overAs m answer }
+    ensures { result ≡ over_as m answer }
 {
     let mut v = m;
     v.stage = OVER;
@@ -62,8 +62,8 @@ pub fn over(m: Machine, answer: u64) -> Machine
 
 // Whether thread t waits for lock l, which another thread holds.
 pub fn waits(m: Machine, t: usize, l: usize) -> bool
-    requires { l < most-locks }
-    ensures { result ≡ heldElsewhere m t l }
+    requires { l < most_locks }
+    ensures { result ≡ held_elsewhere m t l }
 {
     let n = m.count[l];
     if n == 0 {
@@ -75,8 +75,8 @@ pub fn waits(m: Machine, t: usize, l: usize) -> bool
 
 // Thread t takes lock l once more.
 pub fn taken(m: Machine, t: usize, l: usize) -> Machine
-    requires { (l < most-locks) × (t < most-threads) × (get_or m.count l 0 + 1 < 2 ^ 8) }
-    ensures { result ≡ takenBy m t l }
+    requires { (l < most_locks) × (t < most_threads) × (get_or m.count l 0 + 1 < 2 ^ 8) }
+    ensures { result ≡ taken_by m t l }
 {
     let mut v = m;
     let n = m.count[l];
@@ -87,8 +87,8 @@ pub fn taken(m: Machine, t: usize, l: usize) -> Machine
 
 // One hold of lock l is given back.
 pub fn given(m: Machine, l: usize) -> Machine
-    requires { (l < most-locks) × (1 ≤ get_or m.count l 0) }
-    ensures { result ≡ givenBack m l }
+    requires { (l < most_locks) × (1 ≤ get_or m.count l 0) }
+    ensures { result ≡ given_back m l }
 {
     let mut v = m;
     let n = m.count[l];
@@ -98,8 +98,8 @@ pub fn given(m: Machine, l: usize) -> Machine
 
 // One more lock is made.
 pub fn made_one(m: Machine) -> Machine
-    requires { m.made < most-locks }
-    ensures { result ≡ madeOne m }
+    requires { m.made < most_locks }
+    ensures { result ≡ made_one m }
 {
     let mut v = m;
     v.made = m.made + 1;
@@ -108,8 +108,8 @@ pub fn made_one(m: Machine) -> Machine
 
 // Thread t wants w next.
 pub fn wanting(m: Machine, t: usize, w: u8) -> Machine
-    requires { t < most-threads }
-    ensures { result ≡ wantsAs m t w }
+    requires { t < most_threads }
+    ensures { result ≡ wants_as m t w }
 {
     let mut v = m;
     v.wants[t] = w;
@@ -129,8 +129,8 @@ pub fn want(s: &[u8], t: Thread, at: usize) -> u8
 
 // How threads stand, thread t beside others that stand as `others` says.
 fn beside(m: Machine, t: usize, others: u64) -> u64
-    requires { (t < most-threads) × (get_or m.wants t 0 ≤ most-locks + 1) }
-    ensures { result ≡ joinAt m t others }
+    requires { (t < most_threads) × (get_or m.wants t 0 ≤ most_locks + 1) }
+    ensures { result ≡ join_at m t others }
 {
     let w = m.wants[t];
     if w == FREE {
@@ -163,7 +163,7 @@ fn outlook(m: Machine) -> u64
 
 // What is to be done next, where some thread can go on.
 fn next_byte(m: Machine, schedule: &[u8]) -> Machine
-    ensures { result ≡ nextByte m schedule.now }
+    ensures { result ≡ next_byte m schedule.now }
 {
     let i = m.read;
     if schedule.len() <= i {
@@ -182,7 +182,7 @@ fn next_byte(m: Machine, schedule: &[u8]) -> Machine
 // What is to be done next, once every record is as the machine has it.
 pub fn settled(m: Machine, schedule: &[u8]) -> Machine
     requires { Wanting m }
-    ensures { result ≡ settledAs m schedule.now }
+    ensures { result ≡ settled_as m schedule.now }
 {
     let o = outlook(m);
     if o == OPEN {
@@ -194,7 +194,7 @@ pub fn settled(m: Machine, schedule: &[u8]) -> Machine
 // Whether thread t may open no further block or call.
 pub fn full(t: usize, depth: usize) -> bool
     requires { depth + 1 < 2 ^ 64 }
-    ensures { result ≡ fullAt t depth }
+    ensures { result ≡ full_at t depth }
 {
     if t == 0 {
         return MOST_FRAMES <= depth;
@@ -204,7 +204,7 @@ pub fn full(t: usize, depth: usize) -> bool
 
 // Whether no further thread may start.
 pub fn crowded(m: Machine) -> bool
-    ensures { result ≡ crowdedAt m }
+    ensures { result ≡ crowded_at m }
 {
     let n = m.threads;
     if m.lent <= n {
@@ -216,7 +216,7 @@ pub fn crowded(m: Machine) -> bool
 // The turn is counted.
 pub fn counted(m: Machine) -> Machine
     requires { m.read + 1 < 2 ^ 64 }
-    ensures { result ≡ countedAs m }
+    ensures { result ≡ counted_as m }
 {
     let mut v = m;
     v.read = m.read + 1;
@@ -225,8 +225,8 @@ pub fn counted(m: Machine) -> Machine
 
 // A thread starts at `at` with those names; it wants w next.
 pub fn starting(m: Machine, at: usize, names: [u8; MOST_NAMES], w: u8) -> Machine
-    requires { m.threads < most-threads }
-    ensures { result ≡ startingAs m at names w }
+    requires { m.threads < most_threads }
+    ensures { result ≡ starting_as m at names w }
 {
     let mut v = m;
     let t = m.threads;

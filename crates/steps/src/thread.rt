@@ -1,9 +1,9 @@
 // The record of one thread, and the steps that change it: each takes the record by value and gives the new one back.
 ghost use Rattle.std.specs.Prelude.{◌≡◌, ◌+◌, ◌*◌, ◌-◌, ◌<◌, ◌≤◌, get_or, set};
-ghost use Rattle.table.specs.Constants.{most-names};
-ghost use Rattle.schedule.specs.Limits.{most-frames};
-ghost use Rattle.steps.specs.Records.{copied, name_at, passed, level, lockOf, moved_to, finishedAs, boundTo};
-ghost use Rattle.steps.specs.Records.{enteredAs, calledAs, leftTo, taken, bornAt, Room, Level, Passes};
+ghost use Rattle.table.specs.Constants.{most_names};
+ghost use Rattle.schedule.specs.Limits.{most_frames};
+ghost use Rattle.steps.specs.Records.{copied, name_at, passed, level, lock_of, moved_to, finished_as, bound_to};
+ghost use Rattle.steps.specs.Records.{entered_as, called_as, left_to, taken, born_at, Room, Level, Passes};
 
 use crate::limits::{ALL_NAMES, CALLED, MOST_FRAMES};
 use table::limits::MOST_NAMES;
@@ -26,8 +26,8 @@ pub struct Thread {
 
 // The names of level d, copied to level d + 1.
 fn copy_names(names: &mut [u8; ALL_NAMES], d: usize)
-    requires { d < most-frames }
-    ensures { names.new ≡ copied names.old d most-names }
+    requires { d < most_frames }
+    ensures { names.new ≡ copied names.old d most_names }
 {
     let from = MOST_NAMES * d;
     let to = from + MOST_NAMES;
@@ -42,16 +42,16 @@ fn copy_names(names: &mut [u8; ALL_NAMES], d: usize)
 // The name that parameter j + 1 has in a CALL whose k names stand from `from` on; past them it is name 0.
 fn name_at(s: &[u8], from: usize, k: usize, j: usize) -> usize
     requires { Passes s.now from k }
-    ensures { (result ≡ name_at s.now from k j) × (result < most-names) }
+    ensures { (result ≡ name_at s.now from k j) × (result < most_names) }
 {
     if j < k { size(s[from + j]) } else { 0 }
 }
 
 // The names of the routine called, at level d + 1.
 fn pass_names(names: &mut [u8; ALL_NAMES], d: usize, s: &[u8], from: usize, k: usize)
-    requires { (d < most-frames) × Passes s.now from k }
-    ensures { names.new ≡ passed (set names.old (most-names * d + most-names) 0) d
-        s.now from k (most-names - 1) }
+    requires { (d < most_frames) × Passes s.now from k }
+    ensures { names.new ≡ passed (set names.old (most_names * d + most_names) 0) d
+        s.now from k (most_names - 1) }
 {
     let here = MOST_NAMES * d;
     let to = here + MOST_NAMES;
@@ -77,7 +77,7 @@ pub fn moved(t: Thread, at: usize) -> Thread
 
 // The thread once it has ended.
 pub fn finished(t: Thread) -> Thread
-    ensures { result ≡ finishedAs t }
+    ensures { result ≡ finished_as t }
 {
     let mut u = t;
     u.ended = true;
@@ -86,8 +86,8 @@ pub fn finished(t: Thread) -> Thread
 
 // The lock that name x stands for.
 pub fn lock_of(t: Thread, x: usize) -> u8
-    requires { Level t × (x < most-names) }
-    ensures { result ≡ lockOf t x }
+    requires { Level t × (x < most_names) }
+    ensures { result ≡ lock_of t x }
 {
     let d = t.depth;
     let i = MOST_NAMES * d + x;
@@ -96,8 +96,8 @@ pub fn lock_of(t: Thread, x: usize) -> u8
 
 // The thread at another offset, where name x stands for the lock l.
 pub fn bound(t: Thread, x: usize, l: u8, at: usize) -> Thread
-    requires { Level t × (x < most-names) }
-    ensures { result ≡ boundTo t x l at }
+    requires { Level t × (x < most_names) }
+    ensures { result ≡ bound_to t x l at }
 {
     let mut u = t;
     let d = t.depth;
@@ -110,7 +110,7 @@ pub fn bound(t: Thread, x: usize, l: u8, at: usize) -> Thread
 // The thread in a block or an alternative: `kind` is the lock held, or ALTERNATIVE.
 pub fn entered(t: Thread, kind: u8, at: usize) -> Thread
     requires { Room t }
-    ensures { result ≡ enteredAs t kind at }
+    ensures { result ≡ entered_as t kind at }
 {
     let mut u = t;
     let d = t.depth;
@@ -124,7 +124,7 @@ pub fn entered(t: Thread, kind: u8, at: usize) -> Thread
 // The thread at the head of a routine with k parameters; its names stand in the bytes from `from` on.
 pub fn called(t: Thread, s: &[u8], from: usize, k: usize, head: usize) -> Thread
     requires { Room t × Passes s.now from k }
-    ensures { result ≡ calledAs t s.now from k head }
+    ensures { result ≡ called_as t s.now from k head }
 {
     let mut u = t;
     let d = t.depth;
@@ -157,7 +157,7 @@ pub fn top_goes(t: Thread) -> usize
 // The thread with the innermost frame closed.
 pub fn left(t: Thread, at: usize) -> Thread
     requires { 1 ≤ t.depth }
-    ensures { result ≡ leftTo t at }
+    ensures { result ≡ left_to t at }
 {
     let mut u = t;
     u.depth = t.depth - 1;
@@ -167,7 +167,7 @@ pub fn left(t: Thread, at: usize) -> Thread
 
 // The names given, written to level 0.
 fn take_names(names: &mut [u8; ALL_NAMES], given: &[u8; MOST_NAMES])
-    ensures { names.new ≡ taken names.old given.now most-names }
+    ensures { names.new ≡ taken names.old given.now most_names }
 {
     let mut j = 0;
     while j < MOST_NAMES {
@@ -178,7 +178,7 @@ fn take_names(names: &mut [u8; ALL_NAMES], given: &[u8; MOST_NAMES])
 
 // A new thread at the head of a block, with the names given; the rest of the record is as it was.
 pub fn newborn(t: Thread, at: usize, names: [u8; MOST_NAMES]) -> Thread
-    ensures { result ≡ bornAt t at names }
+    ensures { result ≡ born_at t at names }
 {
     let mut u = t;
     u.at = at;
@@ -191,7 +191,7 @@ pub fn newborn(t: Thread, at: usize, names: [u8; MOST_NAMES]) -> Thread
 // The names at the thread's level.
 pub fn names_of(t: Thread) -> [u8; MOST_NAMES]
     requires { Level t }
-    ensures { result ≡ level t.names t.depth most-names }
+    ensures { result ≡ level t.names t.depth most_names }
 {
     let d = t.depth;
     let from = MOST_NAMES * d;

@@ -10,22 +10,22 @@ use lib.Dec.{leb}
 use lib.ListN.{length, get_or, drop, length-drop, drop_of_length-le}
 use lib.Seq.{drop-cons}
 use borrow.Author.Tests.{lt-leb, le-leb, eq-eqb, ne_eqb}
-use Rattle.table.specs.Constants.{most-params, most-locals, most-forks}
+use Rattle.table.specs.Constants.{most_params, most_locals, most_forks}
 use Rattle.table.specs.Constants.{Op, END, NEW, LOCK, FORK, CHOICE, OTHER, CALL, MIRROR, code, op_of}
 use Rattle.table.specs.Program.{Code}
-use Rattle.table.specs.Check.{Item, aLock, aFork, aChoice, Place, past, starting, Block, ok, bad}
-use Rattle.table.specs.Check.{Head, more, closed, wrong, opened, in?, named, callItem, itemIf, block}
-use Rattle.table.specs.Check.{mirrorItem, item}
-use Rattle.table.specs.laws.Cases.{cond_cases}
-use Rattle.table.specs.laws.Sound.{named-fit}
-use Rattle.table.specs.laws.ScopeMask.{bits, grows, shift_one}
-use Rattle.table.specs.laws.Readers.{place_of, withItem, withLocal, withFork, countsPast, countsAfter, scopeAfter}
-use Rattle.table.specs.laws.Readers.{read_of, head_of, itemAnswer, afterBlock, afterFirst, finished}
-use Rattle.table.specs.laws.Readers.{Ready, CanRead, Opens, call_of, callAnswer, plain_of, mirrorAnswer}
+use Rattle.table.specs.Check.{Item, a_lock, a_fork, a_choice, Place, past, starting, Block, ok, bad}
+use Rattle.table.specs.Check.{Head, more, closed, wrong, opened, in?, named, call_item, item_if, block}
+use Rattle.table.specs.Check.{mirror_item, item}
+use Rattle.table.specs.Laws.Cases.{cond_cases}
+use Rattle.table.specs.Laws.Sound.{named_fit}
+use Rattle.table.specs.Laws.ScopeMask.{bits, grows, shift_one}
+use Rattle.table.specs.Laws.Readers.{place_of, with_item, with_local, with_fork, counts_past, counts_after, scope_after}
+use Rattle.table.specs.Laws.Readers.{read_of, head_of, item_answer, after_block, after_first, finished}
+use Rattle.table.specs.Laws.Readers.{Ready, CanRead, Opens, call_of, call_answer, plain_of, mirror_answer}
 use Rattle.table.specs.declared.bodies.Counts.{Counts}
 use Rattle.table.specs.declared.bodies.Opening.{Opening}
 use Rattle.table.specs.declared.bodies.Opening.TheVariants.{Plain, One, Two, Close, Fault}
-use Rattle.table.proofs.ReaderLaws.{read-ready, with-item-ready, with-fork-ready}
+use Rattle.table.proofs.ReaderLaws.{read_ready, with_item_ready, with_fork_ready}
 
 -- a byte that is none of the codes has no kind
 pub no_kind : (b : ℕ) → (b ≡ 0 → ⊥) → (b ≡ 1 → ⊥) → (b ≡ 2 → ⊥) → (b ≡ 3 → ⊥) → (b ≡ 4 → ⊥) → (b ≡ 5 → ⊥)
@@ -42,25 +42,25 @@ no_kind (suc (suc (suc (suc (suc (suc (suc zero))))))) p₀ p₁ p₂ p₃ p₄ 
 no_kind (suc (suc (suc (suc (suc (suc (suc (suc b)))))))) p₀ p₁ p₂ p₃ p₄ p₅ p₆ p₇ = refl
 
 -- a mask has a bit for each name below 16
-pub scope-low : (at own m : ℕ) (n : Counts) → Ready at own m n → m < 65536
-scope-low at own m n rd =
-    let a : own ≤ most-params = rd.few-params in
-    let b : n.locals ≤ most-locals = rd.few-locals in
+pub scope_low : (at own m : ℕ) (n : Counts) → Ready at own m n → m < 65536
+scope_low at own m n rd =
+    let a : own ≤ most_params = rd.few_params in
+    let b : n.locals ≤ most_locals = rd.few_locals in
     let g : 2 ^ (own + n.locals + 1) ≤ 2 ^ 16 = grows (own + n.locals + 1) 16 (omega arith) in
     let h : m < 2 ^ (own + n.locals + 1) = rd.below in
     omega arith
 
 -- a new name below 16 leaves the mask small
-module _ (at own m : ℕ) (n : Counts) (rd : Ready at own m n) (l : n.locals < most-locals) where
-  new-shifted : (1 * 2 ^ (own + n.locals + 1)) % 18446744073709551616 ≡ 2 ^ (own + n.locals + 1)
-  new-shifted = shift_one (own + n.locals + 1) (let h : own ≤ most-params = rd.few-params in omega arith)
+module _ (at own m : ℕ) (n : Counts) (rd : Ready at own m n) (l : n.locals < most_locals) where
+  new_shifted : (1 * 2 ^ (own + n.locals + 1)) % 18446744073709551616 ≡ 2 ^ (own + n.locals + 1)
+  new_shifted = shift_one (own + n.locals + 1) (let h : own ≤ most_params = rd.few_params in omega arith)
 
-  pub new-fits : m + (1 * 2 ^ (own + n.locals + 1)) % 18446744073709551616 < 18446744073709551616
-  new-fits =
-      let h : own ≤ most-params = rd.few-params in
+  pub new_fits : m + (1 * 2 ^ (own + n.locals + 1)) % 18446744073709551616 < 18446744073709551616
+  new_fits =
+      let h : own ≤ most_params = rd.few_params in
       let g : 2 ^ (own + n.locals + 1) ≤ 2 ^ 16 = grows (own + n.locals + 1) 16 (omega arith) in
-      let k : m < 65536 = scope-low at own m n rd in
-      rw new-shifted (omega arith)
+      let k : m < 65536 = scope_low at own m n rd in
+      rw new_shifted (omega arith)
 
 module _ (s : List ℕ) (at : ℕ) where
   next_one : at < length s → length s - length (drop (at + 1) s) ≡ at + 1
@@ -73,8 +73,8 @@ module _ (s : List ℕ) (at : ℕ) where
 
 -- an item with one block, read after the counts k
 one_block : (s : List ℕ) (m : ℕ) (n k : Counts) (f : Code → Item) (p : Block)
-    → ((c : Code) → countsAfter n (f c) ≡ countsPast k c) → ((c : Code) → scopeAfter m (f c) ≡ m)
-    → afterBlock m (read_of s k p) ≡ head_of s m n (opened p (λ c t. more (f c) t))
+    → ((c : Code) → counts_after n (f c) ≡ counts_past k c) → ((c : Code) → scope_after m (f c) ≡ m)
+    → after_block m (read_of s k p) ≡ head_of s m n (opened p (λ c t. more (f c) t))
 one_block s m n k f (ok c t) e e' = rw (e c, e' c)
 one_block s m n k f (bad x) e e' = refl
 
@@ -95,7 +95,7 @@ module _ (ks s : List ℕ) (at d : ℕ) (first : Bool) (own m : ℕ) (n : Counts
   Says o = Opens ks s at d first own m n o
 
   by_code : (b : ℕ) → get_or s at 0 ≡ b
-      → itemAnswer ks s at d first own m n ≡ head_of s m n (itemIf (block ks) ks d first here (op_of b)
+      → item_answer ks s at d first own m n ≡ head_of s m n (item_if (block ks) ks d first here (op_of b)
       (drop (at + 1) s))
   by_code b e = ap (λ (v : List ℕ). head_of s m n (item ks d first here v))
       (drop-cons s at 0 lt ∙ ap (λ (v : ℕ). get_or s at 0 ∷ drop v s) (sym (add-one at))
@@ -104,26 +104,26 @@ module _ (ks s : List ℕ) (at d : ℕ) (first : Bool) (own m : ℕ) (n : Counts
   pub unknown : op_of (get_or s at 0) ≡ none → Says (Fault 8)
   unknown e = record { answer = sym (by_code (get_or s at 0) refl ∙ rw e); ready = tt }
 
-  pub end-first : get_or s at 0 ≡ code END → first ≡ true → Says (Fault 9)
-  end-first e f = record { answer = sym (by_code (code END) e ∙ rw f); ready = tt }
+  pub end_first : get_or s at 0 ≡ code END → first ≡ true → Says (Fault 9)
+  end_first e f = record { answer = sym (by_code (code END) e ∙ rw f); ready = tt }
 
-  pub end-closes : get_or s at 0 ≡ code END → first ≡ false → Says (Close (at + 1))
-  end-closes e f = record { answer = sym (by_code (code END) e ∙ rw (f, next_one s at lt)); ready = tt }
+  pub end_closes : get_or s at 0 ≡ code END → first ≡ false → Says (Close (at + 1))
+  end_closes e f = record { answer = sym (by_code (code END) e ∙ rw (f, next_one s at lt)); ready = tt }
 
-  pub other-closes : get_or s at 0 ≡ code OTHER → first ≡ true → Says (Close (at + 1))
-  other-closes e f = record { answer = sym (by_code (code OTHER) e ∙ rw (f, next_one s at lt)); ready = tt }
+  pub other_closes : get_or s at 0 ≡ code OTHER → first ≡ true → Says (Close (at + 1))
+  other_closes e f = record { answer = sym (by_code (code OTHER) e ∙ rw (f, next_one s at lt)); ready = tt }
 
-  pub other-stray : get_or s at 0 ≡ code OTHER → first ≡ false → Says (Fault 9)
-  other-stray e f = record { answer = sym (by_code (code OTHER) e ∙ rw f); ready = tt }
+  pub other_stray : get_or s at 0 ≡ code OTHER → first ≡ false → Says (Fault 9)
+  other_stray e f = record { answer = sym (by_code (code OTHER) e ∙ rw f); ready = tt }
 
-  pub new-full : get_or s at 0 ≡ code NEW → most-locals ≤ n.locals → Says (Fault 11)
-  new-full e l = record { answer = sym (by_code (code NEW) e ∙ rw (le-leb most-locals n.locals l)); ready = tt }
+  pub new_full : get_or s at 0 ≡ code NEW → most_locals ≤ n.locals → Says (Fault 11)
+  new_full e l = record { answer = sym (by_code (code NEW) e ∙ rw (le-leb most_locals n.locals l)); ready = tt }
 
-  pub new-made : Ready at own m n → get_or s at 0 ≡ code NEW → n.locals < most-locals
-      → Says (Plain (at + 1) (m + (1 * 2 ^ (own + n.locals + 1)) % 18446744073709551616) (withLocal n))
-  new-made rd e l = record {
+  pub new_made : Ready at own m n → get_or s at 0 ≡ code NEW → n.locals < most_locals
+      → Says (Plain (at + 1) (m + (1 * 2 ^ (own + n.locals + 1)) % 18446744073709551616) (with_local n))
+  new_made rd e l = record {
     answer = sym (by_code (code NEW) e
-        ∙ rw (lt-leb most-locals n.locals l, next_one s at lt, new-shifted at own m n rd l));
+        ∙ rw (lt-leb most_locals n.locals l, next_one s at lt, new_shifted at own m n rd l));
     ready = tt;
   }
 
@@ -148,90 +148,90 @@ module _ (ks s : List ℕ) (at d : ℕ) (first : Bool) (own m : ℕ) (n : Counts
     nz : d ≡ 0 → ⊥
     nz e = omega arith
 
-    pub lock-absent : get_or s at 0 ≡ code LOCK → length s ≤ at + 1 → Says (Fault 13)
-    lock-absent e l =
+    pub lock_absent : get_or s at 0 ≡ code LOCK → length s ≤ at + 1 → Says (Fault 13)
+    lock_absent e l =
         record { answer = sym (by_code (code LOCK) e ∙ rw (ne_eqb d 0 nz, drop_of_length-le s l)); ready = tt }
 
-    pub lock-unscoped : get_or s at 0 ≡ code LOCK → at + 1 < length s → in? (get_or s (at + 1) 0) (bits m) ≡ false
+    pub lock_unscoped : get_or s at 0 ≡ code LOCK → at + 1 < length s → in? (get_or s (at + 1) 0) (bits m) ≡ false
         → Says (Fault 13)
-    lock-unscoped e l i =
+    lock_unscoped e l i =
         record { answer = sym (by_code (code LOCK) e ∙ rw (ne_eqb d 0 nz, second s at l, i)); ready = tt }
 
-    pub lock-opens : get_or s at 0 ≡ code LOCK → at + 1 < length s → in? (get_or s (at + 1) 0) (bits m) ≡ true
-        → Says (One (at + 2) (withItem n))
-    lock-opens e l i = record {
-      answer = one_block s m n (withItem n) (aLock (get_or s (at + 1) 0)) (block ks (d - 1) false here
+    pub lock_opens : get_or s at 0 ≡ code LOCK → at + 1 < length s → in? (get_or s (at + 1) 0) (bits m) ≡ true
+        → Says (One (at + 2) (with_item n))
+    lock_opens e l i = record {
+      answer = one_block s m n (with_item n) (a_lock (get_or s (at + 1) 0)) (block ks (d - 1) false here
           (drop (at + 2) s))
           (λ c. refl) (λ c. refl)
           ∙ sym (by_code (code LOCK) e ∙ rw (ne_eqb d 0 nz, second s at l, i));
-      ready = (some, with-item-ready ks s at d first own m n rd 2 (omega arith));
+      ready = (some, with_item_ready ks s at d first own m n rd 2 (omega arith));
     }
 
-    pub fork-full : get_or s at 0 ≡ code FORK → most-forks ≤ n.forks → Says (Fault 11)
-    fork-full e l =
+    pub fork_full : get_or s at 0 ≡ code FORK → most_forks ≤ n.forks → Says (Fault 11)
+    fork_full e l =
         record {
-          answer = sym (by_code (code FORK) e ∙ rw (ne_eqb d 0 nz, le-leb most-forks n.forks l));
+          answer = sym (by_code (code FORK) e ∙ rw (ne_eqb d 0 nz, le-leb most_forks n.forks l));
           ready = tt;
         }
 
-    pub fork-opens : get_or s at 0 ≡ code FORK → n.forks < most-forks → Says (One (at + 1) (withFork n))
-    fork-opens e l = record {
-      answer = one_block s m n (withFork n) (aFork (n.forks + 1)) (block ks (d - 1) false (starting here)
+    pub fork_opens : get_or s at 0 ≡ code FORK → n.forks < most_forks → Says (One (at + 1) (with_fork n))
+    fork_opens e l = record {
+      answer = one_block s m n (with_fork n) (a_fork (n.forks + 1)) (block ks (d - 1) false (starting here)
           (drop (at + 1) s))
           (λ c. refl) (λ c. refl)
-          ∙ sym (by_code (code FORK) e ∙ rw (ne_eqb d 0 nz, lt-leb most-forks n.forks l));
-      ready = (some, with-fork-ready ks s at d first own m n rd l);
+          ∙ sym (by_code (code FORK) e ∙ rw (ne_eqb d 0 nz, lt-leb most_forks n.forks l));
+      ready = (some, with_fork_ready ks s at d first own m n rd l);
     }
 
     -- the second alternative of a choice, read after the first
-    abbrev second-of : Code → List ℕ → Head
-    second-of a t = opened (block ks (d - 1) false (past here a) t) (λ b u. more (aChoice a b) u)
+    abbrev second_of : Code → List ℕ → Head
+    second_of a t = opened (block ks (d - 1) false (past here a) t) (λ b u. more (a_choice a b) u)
 
     two_blocks : (p : Block) → block ks (d - 1) true here (drop (at + 1) s) ≡ p
-        → afterFirst ks s d own m (read_of s (withItem n) p) ≡ head_of s m n (opened p second-of)
+        → after_first ks s d own m (read_of s (with_item n) p) ≡ head_of s m n (opened p second_of)
     two_blocks (bad x) e = refl
     two_blocks (ok c t) e =
         let r : t ≡ drop (length s - length t) s =
-        (read-ready ks s (at + 1) (d - 1) true own m (withItem n)
-        (with-item-ready ks s at d first own m n rd 1 (omega arith))
-        (length s - length t) (countsPast (withItem n) c) (ap (read_of s (withItem n)) e)).1 c t e in
-        one_block s m n (countsPast (withItem n) c) (aChoice c)
+        (read_ready ks s (at + 1) (d - 1) true own m (with_item n)
+        (with_item_ready ks s at d first own m n rd 1 (omega arith))
+        (length s - length t) (counts_past (with_item n) c) (ap (read_of s (with_item n)) e)).1 c t e in
+        one_block s m n (counts_past (with_item n) c) (a_choice c)
         (block ks (d - 1) false (past here c) (drop (length s - length t) s)) (λ b. refl) (λ b. refl)
-        ∙ ap (λ (v : List ℕ). head_of s m n (second-of c v)) (sym r)
+        ∙ ap (λ (v : List ℕ). head_of s m n (second_of c v)) (sym r)
 
-    pub choice-opens : get_or s at 0 ≡ code CHOICE → Says (Two (at + 1) (withItem n))
-    choice-opens e = record {
+    pub choice_opens : get_or s at 0 ≡ code CHOICE → Says (Two (at + 1) (with_item n))
+    choice_opens e = record {
       answer = two_blocks (block ks (d - 1) true here (drop (at + 1) s)) refl
           ∙ sym (by_code (code CHOICE) e ∙ rw (ne_eqb d 0 nz));
-      ready = (some, with-item-ready ks s at d first own m n rd 1 (omega arith));
+      ready = (some, with_item_ready ks s at d first own m n rd 1 (omega arith));
     }
 
 -- a CALL
 module _ (ks s : List ℕ) (at m : ℕ) (n : Counts) where
-  pub call-absent : length s ≤ at + 1 → Fault 12 ≡ callAnswer ks s at m n
-  call-absent l = rw (drop_of_length-le s l)
+  pub call_absent : length s ≤ at + 1 → Fault 12 ≡ call_answer ks s at m n
+  call_absent l = rw (drop_of_length-le s l)
 
   module _ (l : at + 1 < length s) where
-    pub call-high : length ks ≤ get_or s (at + 1) 0 → Fault 12 ≡ callAnswer ks s at m n
-    call-high h = rw (second s at l, le-leb (length ks) (get_or s (at + 1) 0) h)
+    pub call_high : length ks ≤ get_or s (at + 1) 0 → Fault 12 ≡ call_answer ks s at m n
+    call_high h = rw (second s at l, le-leb (length ks) (get_or s (at + 1) 0) h)
 
     -- how many names the call wants
     abbrev wanted : ℕ
     wanted = get_or ks (get_or s (at + 1) 0) 0
 
     module _ (h : get_or s (at + 1) 0 < length ks) where
-      pub call-unnamed : named wanted (bits m) (drop (at + 2) s) ≡ false → Fault 13 ≡ callAnswer ks s at m n
-      call-unnamed i = rw (second s at l, lt-leb (length ks) (get_or s (at + 1) 0) h, i)
+      pub call_unnamed : named wanted (bits m) (drop (at + 2) s) ≡ false → Fault 13 ≡ call_answer ks s at m n
+      call_unnamed i = rw (second s at l, lt-leb (length ks) (get_or s (at + 1) 0) h, i)
 
       pub call_fits : named wanted (bits m) (drop (at + 2) s) ≡ true → at + 2 + wanted ≤ length s
       call_fits i =
-          let f : wanted ≤ length (drop (at + 2) s) = named-fit wanted (bits m) (drop (at + 2) s) i in
+          let f : wanted ≤ length (drop (at + 2) s) = named_fit wanted (bits m) (drop (at + 2) s) i in
           let g : length (drop (at + 2) s) ≡ length s - (at + 2) = length-drop (at + 2) s in
           omega arith
 
-      pub call-named : named wanted (bits m) (drop (at + 2) s) ≡ true
-          → Plain (at + 2 + wanted) m n ≡ callAnswer ks s at m n
-      call-named i =
+      pub call_named : named wanted (bits m) (drop (at + 2) s) ≡ true
+          → Plain (at + 2 + wanted) m n ≡ call_answer ks s at m n
+      call_named i =
           let f : at + 2 + wanted ≤ length s = call_fits i in
           let g : length (drop (at + 2) s) ≡ length s - (at + 2) = length-drop (at + 2) s in
           let g' : length (drop wanted (drop (at + 2) s)) ≡ length (drop (at + 2) s) - wanted =
@@ -244,54 +244,54 @@ module _ (ks s : List ℕ) (at d : ℕ) (first : Bool) (own m : ℕ) (n : Counts
   -- the item of a reading of the call
   abbrev Finished : Head → Type 0
   Finished h =
-      (finished ks s d own m (call_of s m (withItem n) h) ≡ head_of s m n h) × CanRead d own m
-      (call_of s m (withItem n) h)
+      (finished ks s d own m (call_of s m (with_item n) h) ≡ head_of s m n h) × CanRead d own m
+      (call_of s m (with_item n) h)
 
-  call-finished : (l : List ℕ) → Finished (callItem ks (place_of 0 m (withItem n)) l)
-  call-finished [] = (refl, tt)
-  call-finished (r ∷ l) = cond_cases Finished (leb (length ks) r) _ _ (λ e. (refl, tt))
+  call_finished : (l : List ℕ) → Finished (call_item ks (place_of 0 m (with_item n)) l)
+  call_finished [] = (refl, tt)
+  call_finished (r ∷ l) = cond_cases Finished (leb (length ks) r) _ _ (λ e. (refl, tt))
       (λ e. cond_cases Finished (named (get_or ks r 0) (bits m) l) _ _ (λ e'. (refl, tt)) (λ e'. (refl, tt)))
 
   -- only the scope of the place matters
-  same-call : (l : List ℕ) → callItem ks (place_of 0 m (withItem n)) l ≡ callItem ks (place_of own m n) l
-  same-call [] = refl
-  same-call (r ∷ l) = refl
+  same_call : (l : List ℕ) → call_item ks (place_of 0 m (with_item n)) l ≡ call_item ks (place_of own m n) l
+  same_call [] = refl
+  same_call (r ∷ l) = refl
 
-  pub call_opens : get_or s at 0 ≡ code CALL → Opens ks s at d first own m n (callAnswer ks s at m (withItem n))
+  pub call_opens : get_or s at 0 ≡ code CALL → Opens ks s at d first own m n (call_answer ks s at m (with_item n))
   call_opens e = record {
-    answer = (call-finished (drop (at + 1) s)).0
-        ∙ ap (head_of s m n) (same-call (drop (at + 1) s))
+    answer = (call_finished (drop (at + 1) s)).0
+        ∙ ap (head_of s m n) (same_call (drop (at + 1) s))
         ∙ sym (by_code ks s at d first own m n lt (code CALL) e);
-    ready = (call-finished (drop (at + 1) s)).1;
+    ready = (call_finished (drop (at + 1) s)).1;
   }
 
 -- a MIRROR
 module _ (s : List ℕ) (at own m : ℕ) (n : Counts) where
-  pub mirror-full : most-locals ≤ n.locals → Fault 11 ≡ mirrorAnswer s at own m n
-  mirror-full l = rw (le-leb most-locals n.locals l)
+  pub mirror_full : most_locals ≤ n.locals → Fault 11 ≡ mirror_answer s at own m n
+  mirror_full l = rw (le-leb most_locals n.locals l)
 
-  module _ (lt : n.locals < most-locals) where
-    pub mirror-absent : length s ≤ at + 1 → Fault 13 ≡ mirrorAnswer s at own m n
-    mirror-absent l = rw (lt-leb most-locals n.locals lt, drop_of_length-le s l)
+  module _ (lt : n.locals < most_locals) where
+    pub mirror_absent : length s ≤ at + 1 → Fault 13 ≡ mirror_answer s at own m n
+    mirror_absent l = rw (lt-leb most_locals n.locals lt, drop_of_length-le s l)
 
     module _ (l : at + 1 < length s) where
-      pub mirror-unscoped : in? (get_or s (at + 1) 0) (bits m) ≡ false → Fault 13 ≡ mirrorAnswer s at own m n
-      mirror-unscoped i = rw (lt-leb most-locals n.locals lt, second s at l, i)
+      pub mirror_unscoped : in? (get_or s (at + 1) 0) (bits m) ≡ false → Fault 13 ≡ mirror_answer s at own m n
+      mirror_unscoped i = rw (lt-leb most_locals n.locals lt, second s at l, i)
 
-      pub mirror-made : Ready at own m n → in? (get_or s (at + 1) 0) (bits m) ≡ true
-          → Plain (at + 2) (m + (1 * 2 ^ (own + n.locals + 1)) % 18446744073709551616) (withLocal n)
-          ≡ mirrorAnswer s at own m n
-      mirror-made rd i =
+      pub mirror_made : Ready at own m n → in? (get_or s (at + 1) 0) (bits m) ≡ true
+          → Plain (at + 2) (m + (1 * 2 ^ (own + n.locals + 1)) % 18446744073709551616) (with_local n)
+          ≡ mirror_answer s at own m n
+      mirror_made rd i =
           let g : length (drop (at + 2) s) ≡ length s - (at + 2) = length-drop (at + 2) s in
           let x : length s - length (drop (at + 2) s) ≡ at + 2 = omega arith in
-          rw (lt-leb most-locals n.locals lt, second s at l, i, x, new-shifted at own m n rd lt)
+          rw (lt-leb most_locals n.locals lt, second s at l, i, x, new_shifted at own m n rd lt)
 
 -- the opening that `open_mirror` gives makes the item that is read
 module _ (ks s : List ℕ) (at d : ℕ) (first : Bool) (own m : ℕ) (n : Counts) (lt : at < length s) where
-  plain-finished : (h : Head) → finished ks s d own m (plain_of s m n h) ≡ head_of s m n h
-  plain-finished (more i t) = refl
-  plain-finished (closed t) = refl
-  plain-finished (wrong e) = refl
+  plain_finished : (h : Head) → finished ks s d own m (plain_of s m n h) ≡ head_of s m n h
+  plain_finished (more i t) = refl
+  plain_finished (closed t) = refl
+  plain_finished (wrong e) = refl
 
   plain_ready : (h : Head) → CanRead d own m (plain_of s m n h)
   plain_ready (more i t) = tt
@@ -299,13 +299,13 @@ module _ (ks s : List ℕ) (at d : ℕ) (first : Bool) (own m : ℕ) (n : Counts
   plain_ready (wrong e) = tt
 
   -- the reading of the MIRROR
-  abbrev mirror-read : Head
-  mirror-read = cond (leb most-locals n.locals) (wrong 11) (mirrorItem (place_of own m n) (drop (at + 1) s))
+  abbrev mirror_read : Head
+  mirror_read = cond (leb most_locals n.locals) (wrong 11) (mirror_item (place_of own m n) (drop (at + 1) s))
 
-  pub mirror-opens : get_or s at 0 ≡ code MIRROR → Opens ks s at d first own m n (mirrorAnswer s at own m n)
-  mirror-opens e = record {
-    answer = plain-finished mirror-read ∙ sym (by_code ks s at d first own m n lt (code MIRROR) e);
-    ready = plain_ready mirror-read;
+  pub mirror_opens : get_or s at 0 ≡ code MIRROR → Opens ks s at d first own m n (mirror_answer s at own m n)
+  mirror_opens e = record {
+    answer = plain_finished mirror_read ∙ sym (by_code ks s at d first own m n lt (code MIRROR) e);
+    ready = plain_ready mirror_read;
   }
 
 -- an opening that is known

@@ -42,26 +42,26 @@ beside κs = ShrSlice (named 1) κs.1.0 u8 ∷ u64 ∷ u64 ∷ []
 abbrev pub beside_at : Bor (List ℕ) → ℕ → ℕ → List Val × (List Val × (List Val × Unit {0}))
 beside_at ks k i = (lent ks ∷ [], (vint w64 k ∷ [], (vint w64 i ∷ [], tt)))
 
-abbrev pub beside-vals : (κs : Lfts 2) → Spells (beside κs)
-beside-vals κs = (shr_slice_vals, (uint_vals w64, (uint_vals w64, tt)))
+abbrev pub beside_vals : (κs : Lfts 2) → Spells (beside κs)
+beside_vals κs = (shr_slice_vals, (uint_vals w64, (uint_vals w64, tt)))
 
-pub beside-tell : (κs : Lfts 2) → Tellss (beside κs) (Ises (beside κs)) (beside-vals κs)
-beside-tell κs = (shr_slice_Tells (named 1) κs.1.0 u8, (uint_Tells w64, (uint_Tells w64, tt)))
+pub beside_tell : (κs : Lfts 2) → Tellss (beside κs) (Ises (beside κs)) (beside_vals κs)
+beside_tell κs = (shr_slice_Tells (named 1) κs.1.0 u8, (uint_Tells w64, (uint_Tells w64, tt)))
 
 -- what is had of them at exit
 abbrev slots : List (Slot 2)
 slots = shr_slice_of (1 ∷ []) tt (plain (λ _. u8)) ∷ plain (λ _. u64) ∷ plain (λ _. u64) ∷ []
 
-abbrev pub beside-stay : Stays slots (yes, (yes, (yes, tt)))
-beside-stay = (stay_none_slice (1 ∷ []) tt (plain (λ _. u8)) yes, (stay_none (λ _. u64) yes, (stay_none (λ _. u64) yes, tt)))
+abbrev pub beside_stay : Stays slots (yes, (yes, (yes, tt)))
+beside_stay = (stay_none_slice (1 ∷ []) tt (plain (λ _. u8)) yes, (stay_none (λ _. u64) yes, (stay_none (λ _. u64) yes, tt)))
 
 module _ {M : Type 1} {𝓤 : Ura M} (𝓛 : Logic 𝓤) where
-  pub beside-go : AllGo 𝓛 2 slots (yes, (yes, (yes, tt))) beside-stay
-  beside-go = (
+  pub beside_go : AllGo 𝓛 2 slots (yes, (yes, (yes, tt))) beside_stay
+  beside_go = (
     Goes-none_slice 𝓛 2 (1 ∷ []) tt (plain (λ _. u8)) yes,
     (Goes-none 𝓛 2 (λ _. u64) yes (λ κs x f. refl), (Goes-none 𝓛 2 (λ _. u64) yes (λ κs x f. refl), tt)),
   )
 
   -- they are Copy
-  abbrev pub beside-copy : (κs : Lfts 2) → Copies 𝓛 (beside κs)
-  beside-copy κs = (shr_slice_copy 𝓛 (named 1) κs.1.0 u8, (uint_copy 𝓛 w64, (uint_copy 𝓛 w64, tt)))
+  abbrev pub beside_copy : (κs : Lfts 2) → Copies 𝓛 (beside κs)
+  beside_copy κs = (shr_slice_copy 𝓛 (named 1) κs.1.0 u8, (uint_copy 𝓛 w64, (uint_copy 𝓛 w64, tt)))

@@ -4,44 +4,44 @@ use Rattle.std.proofs.Math.Option.{Option}
 use Rattle.std.proofs.Math.ListN.{get_elem?}
 
 -- how many routines a table has at most
-abbrev pub most-routines : ℕ
-most-routines = 64
+abbrev pub most_routines : ℕ
+most_routines = 64
 
 -- how many parameters a routine has at most
-abbrev pub most-params : ℕ
-most-params = 7
+abbrev pub most_params : ℕ
+most_params = 7
 
 -- how many bytes the body section has at most
 abbrev pub most_bytes : ℕ
 most_bytes = 4096
 
 -- how many blocks are open at one time at most, the body not counted
-abbrev pub most-open : ℕ
-most-open = 16
+abbrev pub most_open : ℕ
+most_open = 16
 
 -- how many NEW and MIRROR stand in a routine at most
-abbrev pub most-locals : ℕ
-most-locals = 8
+abbrev pub most_locals : ℕ
+most_locals = 8
 
 -- how many FORK stand in a routine at most
-abbrev pub most-forks : ℕ
-most-forks = 8
+abbrev pub most_forks : ℕ
+most_forks = 8
 
 -- how many names a routine has at most: name 0, its parameters and its locals
-abbrev pub most-names : ℕ
-most-names = 1 + most-params + most-locals
+abbrev pub most_names : ℕ
+most_names = 1 + most_params + most_locals
 
 -- how many names a row of the model has cells for: name 0 and the parameters
-abbrev pub row-names : ℕ
-row-names = 1 + most-params
+abbrev pub row_names : ℕ
+row_names = 1 + most_params
 
 -- how many cells a row has
-abbrev pub row-cells : ℕ
-row-cells = row-names * row-names
+abbrev pub row_cells : ℕ
+row_cells = row_names * row_names
 
 -- how many bytes a row has: its cells and the ring's byte
-abbrev pub row-bytes : ℕ
-row-bytes = row-cells + 1
+abbrev pub row_bytes : ℕ
+row_bytes = row_cells + 1
 
 -- the kinds of item
 pub data Op : Type 0 where

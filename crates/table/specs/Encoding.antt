@@ -1,6 +1,6 @@
 -- The bytes of a program, and the programs within the limits: what a table that is accepted holds.
 use Rattle.std.specs.Prelude.{◌≡◌, List, [], ◌∷◌, ◌++◌, ℕ, ◌+◌, ◌/◌, ◌%◌, max, ◌≤◌, ◌<◌, length, get_or}
-use Rattle.table.specs.Constants.{most-routines, most-params, most_bytes, most-open, most-locals, most-forks}
+use Rattle.table.specs.Constants.{most_routines, most_params, most_bytes, most_open, most_locals, most_forks}
 use Rattle.table.specs.Constants.{Op, END, NEW, LOCK, FORK, CHOICE, OTHER, CALL, MIRROR, code}
 use Rattle.table.specs.Program.{Code, end, new, lock, fork, choice, call, mirror, Routine, Program, empty}
 use Rattle.table.specs.Program.{params, names, locals, forks}
@@ -17,9 +17,9 @@ encode z (call r xs c) = code CALL ∷ r ∷ (xs ++ encode z c)
 encode z (mirror x y c) = code MIRROR ∷ y ∷ encode z c
 
 -- the bodies in order
-abbrev pub encodeBodies : Program → List ℕ
-encodeBodies [] = []
-encodeBodies (q ∷ P) = encode END q.code ++ encodeBodies P
+abbrev pub encode_bodies : Program → List ℕ
+encode_bodies [] = []
+encode_bodies (q ∷ P) = encode END q.code ++ encode_bodies P
 
 -- the parameter counts in order
 abbrev pub counts : Program → List ℕ
@@ -27,12 +27,12 @@ counts [] = []
 counts (q ∷ P) = q.count ∷ counts P
 
 -- a count in two bytes, low byte first
-abbrev pub twoBytes : ℕ → List ℕ
-twoBytes n = n % 256 ∷ n / 256 ∷ []
+abbrev pub two_bytes : ℕ → List ℕ
+two_bytes n = n % 256 ∷ n / 256 ∷ []
 
 -- the whole table
-abbrev pub encodeTable : Program → List ℕ
-encodeTable P = length P ∷ (counts P ++ (twoBytes (length (encodeBodies P)) ++ encodeBodies P))
+abbrev pub encode_table : Program → List ℕ
+encode_table P = length P ∷ (counts P ++ (two_bytes (length (encode_bodies P)) ++ encode_bodies P))
 
 -- Locals and forks are numbered in written order over the routine, the locals of its NEW and MIRROR above its k
 -- parameters and its forks from 1 on, where m NEW and MIRROR and j FORK of the routine stand before the code.
@@ -59,17 +59,17 @@ depth (mirror x y c) = depth c
 
 -- a routine of the program P within the limits
 pub record Fits (P : Program) (q : Routine) : Type 0 where
-  pub few-params : q.count ≤ most-params
+  pub few_params : q.count ≤ most_params
   pub scoped : Scoped P q.count (names q.count) q.code
   pub numbered : Numbered q.count 0 0 q.code
-  pub few-open : depth q.code ≤ most-open
-  pub few-locals : locals q.code ≤ most-locals
-  pub few-forks : forks q.code ≤ most-forks
+  pub few_open : depth q.code ≤ most_open
+  pub few_locals : locals q.code ≤ most_locals
+  pub few_forks : forks q.code ≤ most_forks
 
 -- a program within the limits
 pub record WithinLimits (P : Program) : Type 0 where
-  pub some-routine : 1 ≤ length P
-  pub few-routines : length P ≤ most-routines
+  pub some_routine : 1 ≤ length P
+  pub few_routines : length P ≤ most_routines
   pub main : params P 0 ≡ 0
   pub fits : (r : ℕ) → r < length P → Fits P (get_or P r empty)
-  pub few_bytes : length (encodeBodies P) ≤ most_bytes
+  pub few_bytes : length (encode_bodies P) ≤ most_bytes

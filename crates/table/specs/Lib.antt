@@ -4,4 +4,4 @@ pub mod Check
 pub mod Answer
 pub mod WellFormed
 pub mod Encoding
-pub mod laws
+pub mod Laws

@@ -69,6 +69,6 @@ items (call r xs c) = 1 + items c
 items (mirror x y c) = 1 + items c
 
 -- how many items stand in the bodies of the program
-abbrev pub programItems : Program → ℕ
-programItems [] = 0
-programItems (q ∷ P) = items q.code + programItems P
+abbrev pub program_items : Program → ℕ
+program_items [] = 0
+program_items (q ∷ P) = items q.code + program_items P

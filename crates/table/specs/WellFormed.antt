@@ -57,4 +57,4 @@ pub record WellFormed (P : Program) : Type 0 where
   pub scoped : (r : ℕ) → r < length P → Scoped P (params P r) (names (params P r)) (body P r)
   pub fresh : (r : ℕ) → r < length P → Fresh (names (params P r)) (body P r)
   pub once : (r : ℕ) → r < length P → NoDup (onces (body P r))
-  pub some-routine : 0 < length P
+  pub some_routine : 0 < length P

@@ -1,8 +1,8 @@
 // The readers of bodies: the block reader and the item reader call each other, and the depth left falls with each block
 // that is opened. They keep an offset into the lent section and copy none of it.
 ghost use Rattle.std.specs.Prelude.{◌≡◌};
-ghost use Rattle.table.specs.laws.Readers.{afterBlock, blockAnswer, itemAnswer, callAnswer, mirrorAnswer};
-ghost use Rattle.table.specs.laws.Readers.{Opens, CallReady, MirrorReady, Ready};
+ghost use Rattle.table.specs.Laws.Readers.{after_block, block_answer, item_answer, call_answer, mirror_answer};
+ghost use Rattle.table.specs.Laws.Readers.{Opens, CallReady, MirrorReady, Ready};
 
 use crate::limits::{CALL, CHOICE, END, FORK, LOCK, MIRROR, MOST_FORKS, MOST_LOCALS, NEW, OTHER};
 use crate::scope::{in_scope, names_at, size, wide};
@@ -45,7 +45,7 @@ pub enum BlockRead {
 // What stands at a CALL whose code is at `at`; `after` has the counts after it.
 fn open_call(ks: &[u8], s: &[u8], at: usize, scope: u64, after: Counts) -> Opening
     requires { CallReady s.now at scope }
-    ensures { result ≡ callAnswer ks.now s.now at scope after }
+    ensures { result ≡ call_answer ks.now s.now at scope after }
 {
     if s.len() <= at + 1 {
         return Opening::Fault(12);
@@ -65,7 +65,7 @@ fn open_call(ks: &[u8], s: &[u8], at: usize, scope: u64, after: Counts) -> Openi
 // What stands at a MIRROR whose code is at `at`.
 fn open_mirror(s: &[u8], at: usize, own: u64, scope: u64, n: Counts) -> Opening
     requires { MirrorReady s.now at own scope n }
-    ensures { result ≡ mirrorAnswer s.now at own scope n }
+    ensures { result ≡ mirror_answer s.now at own scope n }
 {
     let made = n.locals;
     let name = at + 1;
@@ -206,7 +206,7 @@ fn open_item(
 
 // The item whose last block was read; the block's locals have left the scope.
 fn after_block(scope: u64, b: BlockRead) -> ItemRead
-    ensures { result ≡ afterBlock scope b }
+    ensures { result ≡ after_block scope b }
 {
     match b {
         BlockRead::Read(next, n) => ItemRead::More(next, scope, n),
@@ -227,7 +227,7 @@ pub fn read_block(
     counts: Counts,
 ) -> BlockRead
     requires { Ready at own scope counts }
-    ensures { result ≡ blockAnswer ks.now s.now at depth first own scope counts }
+    ensures { result ≡ block_answer ks.now s.now at depth first own scope counts }
 {
     let mut i = at;
     let mut m = scope;
@@ -269,7 +269,7 @@ fn read_item(
     counts: Counts,
 ) -> ItemRead
     requires { Ready at own scope counts }
-    ensures { result ≡ itemAnswer ks.now s.now at depth first own scope counts }
+    ensures { result ≡ item_answer ks.now s.now at depth first own scope counts }
 {
     match open_item(ks, s, at, depth, first, own, scope, counts) {
         Opening::Plain(next, wider, after) => ItemRead::More(next, wider, after),

@@ -1,8 +1,8 @@
 // The handler table: whether its bytes are accepted, with how many routines and items, or which refusal comes first.
 ghost use Rattle.std.specs.Prelude.{◌≡◌, true};
-ghost use Rattle.table.specs.Check.{small?, bodies, checkTable};
-ghost use Rattle.table.specs.Answer.{checkedOf};
-ghost use Rattle.table.specs.laws.Readers.{HasCounts};
+ghost use Rattle.table.specs.Check.{small?, bodies, check_table};
+ghost use Rattle.table.specs.Answer.{checked_of};
+ghost use Rattle.table.specs.Laws.Readers.{HasCounts};
 
 mod bodies;
 pub mod limits;
@@ -38,7 +38,7 @@ fn small_counts(ks: &[u8]) -> bool
 // Reads the bodies of the routines in order; ks has their parameter counts.
 fn read_bodies(ks: &[u8], s: &[u8]) -> Checked
     requires { small? ks.now ≡ true }
-    ensures { result ≡ checkedOf (bodies ks.now ks.now s.now) }
+    ensures { result ≡ checked_of (bodies ks.now ks.now s.now) }
 {
     let mut r = 0;
     let mut at = 0;
@@ -65,7 +65,7 @@ fn read_bodies(ks: &[u8], s: &[u8]) -> Checked
 // Checks a table of n routines that has all its counts.
 fn check_sections(table: &[u8], n: usize) -> Checked
     requires { HasCounts table.now n }
-    ensures { result ≡ checkedOf (checkTable table.now) }
+    ensures { result ≡ checked_of (check_table table.now) }
 {
     let ks = &table[1..n + 1];
     if small_counts(ks) {
@@ -87,7 +87,7 @@ fn check_sections(table: &[u8], n: usize) -> Checked
 
 // Checks a whole table.
 pub fn check(table: &[u8]) -> Checked
-    ensures { result ≡ checkedOf (checkTable table.now) }
+    ensures { result ≡ checked_of (check_table table.now) }
 {
     if table.len() == 0 {
         return Checked::Refused(1);

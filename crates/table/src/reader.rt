@@ -1,7 +1,7 @@
 // The body reader: the lent body section beside the offset of the next body. No byte is copied. The functions over it only
 // make it and take it apart; the work is `read_from`'s, which takes the slice and the number.
 ghost use Rattle.std.specs.Prelude.{◌≡◌};
-ghost use Rattle.table.specs.laws.Readers.{bodyAnswer, AtBody};
+ghost use Rattle.table.specs.Laws.Readers.{body_answer, AtBody};
 
 use crate::bodies::{BlockRead, Counts, read_block};
 use crate::limits::MOST_OPEN;
@@ -17,7 +17,7 @@ pub struct Body<'a> {
 // of all routines, and `items` items stand before the body.
 fn read_from(s: &[u8], at: usize, ks: &[u8], own: u64, items: u64) -> BlockRead
     requires { AtBody at own items }
-    ensures { result ≡ bodyAnswer ks.now s.now at own items }
+    ensures { result ≡ body_answer ks.now s.now at own items }
 {
     let n = Counts {
         locals: 0,
@@ -37,7 +37,7 @@ fn body_at<'a>(section: &'a [u8], at: usize) -> Body<'a>
 // Reads the body at the reader's offset.
 fn read_body<'a, 'k>(b: Body<'a>, ks: &'k [u8], own: u64, items: u64) -> BlockRead
     requires { AtBody b.at own items }
-    ensures { result ≡ bodyAnswer ks.now b.entry.section.now b.entry.at own items }
+    ensures { result ≡ body_answer ks.now b.entry.section.now b.entry.at own items }
 {
     read_from(b.section, b.at, ks, own, items)
 }
@@ -45,7 +45,7 @@ fn read_body<'a, 'k>(b: Body<'a>, ks: &'k [u8], own: u64, items: u64) -> BlockRe
 // Reads the body at an offset of the section s through a reader; its parameters are plain.
 pub fn next_body(s: &[u8], at: usize, ks: &[u8], own: u64, items: u64) -> BlockRead
     requires { AtBody at own items }
-    ensures { result ≡ bodyAnswer ks.now s.now at own items }
+    ensures { result ≡ body_answer ks.now s.now at own items }
 {
     read_body(body_at(s, at), ks, own, items)
 }

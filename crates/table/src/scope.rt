@@ -1,7 +1,7 @@
 // The names in scope, as the bits of a number.
 ghost use Rattle.std.specs.Prelude.{◌≡◌, ◌^◌, ◌<◌, drop};
 ghost use Rattle.table.specs.Check.{in?, named};
-ghost use Rattle.table.specs.laws.ScopeMask.{bits};
+ghost use Rattle.table.specs.Laws.ScopeMask.{bits};
 
 // A byte as a wider number.
 pub fn wide(x: u8) -> u64

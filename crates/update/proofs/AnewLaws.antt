@@ -9,28 +9,28 @@ use native.Mathlib.Decide.{ℕ_discrete}
 use lib.Count.{count_leading_zeros}
 use lib.Pow.{pow_pos}
 use lib.ListN.{length, get_or}
-use Rattle.table.specs.laws.Lists.{body-listed}
+use Rattle.table.specs.Laws.Lists.{body_listed}
 use Rattle.table.specs.Program.{Program, body}
-use Rattle.table.specs.laws.ScopeMask.{grows}
-use Rattle.table.specs.laws.Sections.{routines}
+use Rattle.table.specs.Laws.ScopeMask.{grows}
+use Rattle.table.specs.Laws.Sections.{routines}
 use Rattle.rules.specs.Verdict.{Calls}
 use Rattle.grid.specs.Rows.{Has, Bits}
-use Rattle.grid.specs.laws.Masks.{has-zero, has-below}
+use Rattle.grid.specs.Laws.Masks.{has_zero, has_below}
 use Rattle.rows.specs.Model.{Shaped, Cleared}
-use Rattle.rows.specs.laws.Cells.{apart}
+use Rattle.rows.specs.Laws.Cells.{apart}
 use Rattle.rounds.specs.Reaches.{ReachesBy, calls, passes, Touched}
 use Rattle.settle.specs.Reach.{CallBit, Reachable, main, next, CanReach}
 use Rattle.settle.specs.Settle.{PartlyWith}
 use Rattle.settle.specs.Bodies.{Linked, Rising, Started, Settles}
-use Rattle.settle.specs.laws.Masks.{has-top, highest-at}
-use Rattle.settle.specs.laws.Off.{inside, taken, rest, rest-bits, rest-less, rest_below}
-use Rattle.settle.specs.laws.Cleared.{cleared-with}
-use Rattle.update.specs.Contracts.{MaskCleared, CanRework, Reworks}
+use Rattle.settle.specs.Laws.Masks.{has_top, highest_at}
+use Rattle.settle.specs.Laws.Off.{inside, taken, rest, rest_bits, rest_less, rest_below}
+use Rattle.settle.specs.Laws.Cleared.{cleared_with}
+use Rattle.update.specs.Parts.{MaskCleared, CanRework, Reworks}
 
 -- the rows of the mask that are not left are zero
 pub record Clearing (n mask : ℕ) (before after : List ℕ) (left : ℕ) : Type 0 where
   pub long : length after ≡ length before
-  pub left-of : (q : ℕ) → Has left q → Has mask q
+  pub left_of : (q : ℕ) → Has left q → Has mask q
   pub left_below : left < 2 ^ n
   pub zero : (q i : ℕ) → Has mask q → (Has left q → ⊥) → i < 65 → get_or after (65 * q + i) 0 ≡ 0
   pub same : (q i : ℕ) → (Has mask q → ⊥) → i < 65 → get_or after (65 * q + i) 0 ≡ get_or before (65 * q + i) 0
@@ -43,10 +43,10 @@ pub record AtRow (n : ℕ) (model : List ℕ) (left r : ℕ) : Type 0 where
   pub less : left - (1 * 2 ^ r) % 18446744073709551616 < left
 
 module _ (n mask : ℕ) (before : List ℕ) (pre : (n ≤ 64) × (mask < 2 ^ n) × (65 * n ≤ length before)) where
-  pub clearing-start : Clearing n mask before before mask
-  clearing-start = record {
+  pub clearing_start : Clearing n mask before before mask
+  clearing_start = record {
     long = refl;
-    left-of = λ q h. h;
+    left_of = λ q h. h;
     left_below = pre.1;
     zero = λ q i h m l. absurd (m h);
     same = λ q i m l. refl;
@@ -63,89 +63,89 @@ module _ (n mask : ℕ) (before : List ℕ) (pre : (n ≤ 64) × (mask < 2 ^ n) 
           small = omega arith;
           off = taken n left r pre.0 go.left_below bit;
           there = omega arith;
-          less = rest-less n left r pre.0 go.left_below bit;
+          less = rest_less n left r pre.0 go.left_below bit;
         }
 
-    pub clearing-turn : (after : List ℕ) → Cleared (65 * r) (65 * r + 65) model after
+    pub clearing_turn : (after : List ℕ) → Cleared (65 * r) (65 * r + 65) model after
         → Clearing n mask before after (rest n left r pre.0 go.left_below bit)
-    clearing-turn after c = record {
+    clearing_turn after c = record {
       long = c.long ∙ go.long;
-      left-of = λ q h. go.left-of q (off.to q h).1;
+      left_of = λ q h. go.left_of q (off.to q h).1;
       left_below = rest_below n left r pre.0 go.left_below bit;
       zero = λ q i h m l. zero q i h m l (ℕ_discrete q r);
-      same = λ q i m l. c.rest (65 * q + i) (apart q r i (λ e. m (go.left-of q (rw e bit))) l) ∙ go.same q i m l;
+      same = λ q i m l. c.rest (65 * q + i) (apart q r i (λ e. m (go.left_of q (rw e bit))) l) ∙ go.same q i m l;
     }
       where
         off : Bits (rest n left r pre.0 go.left_below bit) (λ j. (j ≢ r) × Has left j)
-        off = rest-bits n left r pre.0 go.left_below bit
+        off = rest_bits n left r pre.0 go.left_below bit
 
         zero : (q i : ℕ) → Has mask q → (Has (rest n left r pre.0 go.left_below bit) q → ⊥) → i < 65
             → Dec (q ≡ r) → get_or after (65 * q + i) 0 ≡ 0
         zero q i h m l (yes e) = rw e (c.zero (65 * r + i) (omega arith) (omega arith))
         zero q i h m l (no ne) = c.rest (65 * q + i) (apart q r i ne l) ∙ go.zero q i h (λ b. m (off.from q (ne, b))) l
 
-  pub clearing-end : (model : List ℕ) (left : ℕ) → left ≡ 0 → Clearing n mask before model left
+  pub clearing_end : (model : List ℕ) (left : ℕ) → left ≡ 0 → Clearing n mask before model left
       → MaskCleared mask before model
-  clearing-end model left e go = record {
+  clearing_end model left e go = record {
     long = go.long;
-    zero = λ q i h l. go.zero q i h (λ b. has-zero q (rw e at b)) l;
+    zero = λ q i h l. go.zero q i h (λ b. has_zero q (rw e at b)) l;
     same = go.same;
   }
 
 -- the routines that a walk over callers reaches are those that reach r by calls
 module _ (P : Program) (ks s starts callers : List ℕ) (k : Linked P ks s starts callers) (r : ℕ) where
-  to-touched : (q : ℕ) → Reachable callers r q → Touched P r q
-  to-touched q (main e) = inl e
-  to-touched q (next {r = p} h w) = go (to-touched p h)
+  to_touched : (q : ℕ) → Reachable callers r q → Touched P r q
+  to_touched q (main e) = inl e
+  to_touched q (next {r = p} h w) = go (to_touched p h)
     where
       c : Calls (body P q) p
-      c = (k.callers-only p q w.1).1
+      c = (k.callers_only p q w.1).1
 
       go : Touched P r p → Touched P r q
       go (inl e) = inr (calls (rw e at c))
       go (inr x) = inr (passes c x)
 
-  caller-bit : (p q : ℕ) → p < 64 → q < length P → Calls (body P q) p → CallBit callers p q
-  caller-bit p q l h c = let e = k.callers-below.0 in (omega arith, k.callers-of p q h c)
+  caller_bit : (p q : ℕ) → p < 64 → q < length P → Calls (body P q) p → CallBit callers p q
+  caller_bit p q l h c = let e = k.callers_below.0 in (omega arith, k.callers_of p q h c)
 
   -- a routine that calls another is one of the program
-  calls-listed : (q p : ℕ) → Calls (body P q) p → q < length P
-  calls-listed q p c = body-listed P q (λ d. Calls d p) (λ z. z) c
+  calls_listed : (q p : ℕ) → Calls (body P q) p → q < length P
+  calls_listed q p c = body_listed P q (λ d. Calls d p) (λ z. z) c
 
   few : length P ≤ 64
-  few = k.holds.limits.few-routines
+  few = k.holds.limits.few_routines
 
-  reach-back : {q p : ℕ} → ReachesBy P q p → p ≡ r → r < length P → Reachable callers r q
-  reach-back (calls {q = q} {r = p} c) e h =
+  reach_back : {q p : ℕ} → ReachesBy P q p → p ≡ r → r < length P → Reachable callers r q
+  reach_back (calls {q = q} {r = p} c) e h =
       let f = few in
-      next (main refl) (caller-bit r q (omega arith) (calls-listed q p c) (rw e at c))
-  reach-back (passes {q = q} {s = p} c w) e h =
+      next (main refl) (caller_bit r q (omega arith) (calls_listed q p c) (rw e at c))
+  reach_back (passes {q = q} {s = p} c w) e h =
       let f = few in
-      let l = first-listed w in
-      next (reach-back w e h) (caller-bit p q (omega arith) (calls-listed q p c) c)
+      let l = first_listed w in
+      next (reach_back w e h) (caller_bit p q (omega arith) (calls_listed q p c) c)
     where
-      first-listed : {u v : ℕ} → ReachesBy P u v → u < length P
-      first-listed (calls {q = u} {r = v} d) = calls-listed u v d
-      first-listed (passes {q = u} {s = v} d x) = calls-listed u v d
+      first_listed : {u v : ℕ} → ReachesBy P u v → u < length P
+      first_listed (calls {q = u} {r = v} d) = calls_listed u v d
+      first_listed (passes {q = u} {s = v} d x) = calls_listed u v d
 
-  from-touched : (q : ℕ) → r < length P → Touched P r q → Reachable callers r q
-  from-touched q h (inl e) = main e
-  from-touched q h (inr w) = reach-back w refl h
+  from_touched : (q : ℕ) → r < length P → Touched P r q → Reachable callers r q
+  from_touched q h (inl e) = main e
+  from_touched q h (inr w) = reach_back w refl h
 
   module _ (mask : ℕ) (fits : mask < 2 ^ 64) (listed : r < length P) (bits : Bits mask (Reachable callers r)) where
-    pub touched-bits : Bits mask (Touched P r)
-    touched-bits = record {
-      to = λ q h. to-touched q (bits.to q h);
-      from = λ q t. bits.from q (from-touched q listed t);
+    pub touched_bits : Bits mask (Touched P r)
+    touched_bits = record {
+      to = λ q h. to_touched q (bits.to q h);
+      from = λ q t. bits.from q (from_touched q listed t);
     }
 
-    bit-listed : (q : ℕ) → Has mask q → q < length P
-    bit-listed q h = go (to-touched q (bits.to q h))
+    bit_listed : (q : ℕ) → Has mask q → q < length P
+    bit_listed q h = go (to_touched q (bits.to q h))
       where
         go : Touched P r q → q < length P
         go (inl e) = rw e listed
-        go (inr (calls {r = p} c)) = calls-listed q p c
-        go (inr (passes {s = p} c w)) = calls-listed q p c
+        go (inr (calls {r = p} c)) = calls_listed q p c
+        go (inr (passes {s = p} c w)) = calls_listed q p c
 
     pub mask_below : mask < 2 ^ length P
     mask_below = go (ℕ_discrete mask 0)
@@ -153,8 +153,8 @@ module _ (P : Program) (ks s starts callers : List ℕ) (k : Linked P ks s start
         go : Dec (mask ≡ 0) → mask < 2 ^ length P
         go (yes e) = rw e (pow_pos (length P))
         go (no n) =
-            let t = highest-at mask (omega arith) fits in
-            let l = bit-listed (63 - count_leading_zeros 64 mask) (has-top mask (63 - count_leading_zeros 64 mask) t) in
+            let t = highest_at mask (omega arith) fits in
+            let l = bit_listed (63 - count_leading_zeros 64 mask) (has_top mask (63 - count_leading_zeros 64 mask) t) in
             let g = grows (63 - count_leading_zeros 64 mask + 1) (length P) (omega arith) in
             let u = t.high in
             omega arith
@@ -164,45 +164,45 @@ module _ (P : Program) (ks s starts callers : List ℕ) (k : Linked P ks s start
       below = mask_below;
       closed = λ p q h w.
           let f = few in
-          let e = k.callers-below.0 in
-          let l = bit-listed p h in
+          let e = k.callers_below.0 in
+          let l = bit_listed p h in
           bits.from q (next (bits.to p h) (omega arith, w));
     }
 
 -- the whole update
 module _ (ks s starts callers : List ℕ) (r : ℕ) (before : List ℕ) (can : CanRework ks s starts callers r before) where
-  pub can-reach : CanReach callers r
-  can-reach =
-      let e = can.linked.callers-below.0 in
-      let f = can.linked.holds.limits.few-routines in
+  pub can_reach : CanReach callers r
+  can_reach =
+      let e = can.linked.callers_below.0 in
+      let f = can.linked.holds.limits.few_routines in
       let l = can.listed in
       record {
         there = omega arith;
         few = omega arith;
         within = λ p q c.
-            let b = has-below (get_or callers p 0) (length can.program) q (can.linked.callers-below.1 p) c.1 in
+            let b = has_below (get_or callers p 0) (length can.program) q (can.linked.callers_below.1 p) c.1 in
             omega arith;
       }
 
   module _ (mask : ℕ) (fits : mask < 2 ^ 64) (bits : Bits mask (Reachable callers r)) where
-    pub can-clear : (length ks ≤ 64) × (mask < 2 ^ length ks) × (65 * length ks ≤ length before)
-    can-clear =
+    pub can_clear : (length ks ≤ 64) × (mask < 2 ^ length ks) × (65 * length ks ≤ length before)
+    can_clear =
         let e = routines can.program ks s can.linked.holds in
-        let f = can.linked.holds.limits.few-routines in
+        let f = can.linked.holds.limits.few_routines in
         let l = can.long in
         let b = mask_below can.program ks s starts callers can.linked r mask fits can.listed bits in
         (omega arith, rw e b, omega arith)
 
     module _ (cleared : List ℕ) (clear : MaskCleared mask before cleared) where
-      partly-start : (P : Program) → Linked P ks s starts callers → Shaped (length P) before
+      partly_start : (P : Program) → Linked P ks s starts callers → Shaped (length P) before
           → PartlyWith P (Has mask) before cleared [] (Has mask)
-      partly-start P k shaped =
+      partly_start P k shaped =
           let e = routines P ks s k.holds in
           let f = routines can.program ks s can.linked.holds in
           let g = can.listed in
           let h : r < length P = omega arith in
           let low = mask_below P ks s starts callers k r mask fits h bits in
-          cleared-with P mask before cleared low clear.long (λ i l. beyond P low i l)
+          cleared_with P mask before cleared low clear.long (λ i l. beyond P low i l)
           (λ q i l t j. clear.zero q i t j) (λ q i l n j. clear.same q i n j) (λ q l n. shaped q l)
         where
           beyond : (P : Program) → mask < 2 ^ length P → (i : ℕ) → 65 * length P ≤ i → get_or cleared i 0 ≡ get_or before
@@ -212,16 +212,16 @@ module _ (ks s starts callers : List ℕ) (r : ℕ) (before : List ℕ) (can : C
               let m : i % 65 < 65 = mod-lt i (omega arith) in
               let q = i / 65 in
               let j = i % 65 in
-              rw e (clear.same q j (λ b. let z = has-below mask (length P) q low b in omega arith) m)
+              rw e (clear.same q j (λ b. let z = has_below mask (length P) q low b in omega arith) m)
 
-      pub can-settle-due : Started ks s starts callers mask cleared
-      can-settle-due = record {
+      pub can_settle_due : Started ks s starts callers mask cleared
+      can_settle_due = record {
         program = can.program;
         linked = can.linked;
         rising = rising can.program ks s starts callers can.linked r mask fits can.listed bits;
         long = let l = can.long in let e = clear.long in omega arith;
         before = before;
-        partly = partly-start can.program can.linked can.shaped;
+        partly = partly_start can.program can.linked can.shaped;
       }
 
       pub reworked : (after names : List ℕ) → Settles ks s starts callers mask cleared after names
@@ -234,6 +234,6 @@ module _ (ks s starts callers : List ℕ) (r : ℕ) (before : List ℕ) (can : C
           record {
             mask = mask;
             names = names;
-            touched = touched-bits P ks s starts callers k r mask fits h bits;
-            partly = st P before k (partly-start P k shaped);
+            touched = touched_bits P ks s starts callers k r mask fits h bits;
+            partly = st P before k (partly_start P k shaped);
           }

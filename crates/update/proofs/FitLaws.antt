@@ -11,12 +11,12 @@ use lib.Dec.{T, eqb, leb, leb→le, le→leb}
 use borrow.Author.Tests.{eqb-true, eqb-false, lt-ltb, le-ltb}
 use lib.ListN.{length, get_or, set, length-set}
 use lib.Seq.{get_or-set_same, get_or-set_other}
-use Rattle.update.specs.Contracts.{Answers, CellFits, neededFor, Needed, outsideOf, RowFits}
-use Rattle.update.proofs.ZeroLaws.{ZeroWhere, zero-none, zero-map, zero_or, zero-cell}
+use Rattle.update.specs.Parts.{Answers, CellFits, needed_for, Needed, outside_of, RowFits}
+use Rattle.update.proofs.ZeroLaws.{ZeroWhere, zero_none, zero_map, zero_or, zero_cell}
 
 -- what a pair needs, by the cases of its ends
-pub never-needed : (a b : ℕ) → (a ≡ b) ⊎ (b ≡ 0) → ◌≡◌ {A = ℕ} 8 (neededFor a b)
-never-needed a b o = go (eqb a b) refl (eqb b 0) refl o
+pub never_needed : (a b : ℕ) → (a ≡ b) ⊎ (b ≡ 0) → ◌≡◌ {A = ℕ} 8 (needed_for a b)
+never_needed a b o = go (eqb a b) refl (eqb b 0) refl o
   where
     go : (c : Bool) → eqb a b ≡ c → (d : Bool) → eqb b 0 ≡ d → (a ≡ b) ⊎ (b ≡ 0)
         → ◌≡◌ {A = ℕ} 8 (cond (c || d) 8 (max a b))
@@ -25,8 +25,8 @@ never-needed a b o = go (eqb a b) refl (eqb b 0) refl o
     go false e false f (inl x) = absurd (eqb-false a b e x)
     go false e false f (inr y) = absurd (eqb-false b 0 f y)
 
-pub max-needed : (a b v : ℕ) → ¬ (a ≡ b) → ¬ (b ≡ 0) → v ≡ max a b → v ≡ neededFor a b
-max-needed a b v x y e = go (eqb a b) refl (eqb b 0) refl
+pub max_needed : (a b v : ℕ) → ¬ (a ≡ b) → ¬ (b ≡ 0) → v ≡ max a b → v ≡ needed_for a b
+max_needed a b v x y e = go (eqb a b) refl (eqb b 0) refl
   where
     go : (c : Bool) → eqb a b ≡ c → (d : Bool) → eqb b 0 ≡ d → v ≡ cond (c || d) 8 (max a b)
     go true g d f = absurd (x (eqb-true a b g))
@@ -34,25 +34,25 @@ max-needed a b v x y e = go (eqb a b) refl (eqb b 0) refl
     go false g false f = e
 
 -- the bits that a cell may not have, by the cases of the test
-pub outside-few : (n k : ℕ) → k < n → ◌≡◌ {A = ℕ} 255 (outsideOf n k)
-outside-few n k l = ap (λ (c : Bool). cond c 255 248) (sym (lt-ltb k n l))
+pub outside_few : (n k : ℕ) → k < n → ◌≡◌ {A = ℕ} 255 (outside_of n k)
+outside_few n k l = ap (λ (c : Bool). cond c 255 248) (sym (lt-ltb k n l))
 
-pub outside-enough : (n k : ℕ) → n ≤ k → ◌≡◌ {A = ℕ} 248 (outsideOf n k)
-outside-enough n k l = ap (λ (c : Bool). cond c 255 248) (sym (le-ltb k n l))
+pub outside_enough : (n k : ℕ) → n ≤ k → ◌≡◌ {A = ℕ} 248 (outside_of n k)
+outside_enough n k l = ap (λ (c : Bool). cond c 255 248) (sym (le-ltb k n l))
 
 -- the entries below i are what pairs need
 pub record NeededTo (t : List ℕ) (i : ℕ) : Type 0 where
   pub long : length t ≡ 64
-  pub entries : (j : ℕ) → j < i → get_or t j 0 ≡ neededFor (j / 8) (j % 8)
+  pub entries : (j : ℕ) → j < i → get_or t j 0 ≡ needed_for (j / 8) (j % 8)
 
-pub needed-more : (t : List ℕ) (i v : ℕ) → i < 64 → NeededTo t i → v ≡ neededFor (i / 8) (i % 8)
+pub needed_more : (t : List ℕ) (i v : ℕ) → i < 64 → NeededTo t i → v ≡ needed_for (i / 8) (i % 8)
     → NeededTo (set t i v) (i + 1)
-needed-more t i v l o e = record {
+needed_more t i v l o e = record {
   long = length-set t i v ∙ o.long;
   entries = λ j k. go j k (ℕ_discrete j i);
 }
   where
-    go : (j : ℕ) → j < i + 1 → Dec (j ≡ i) → get_or (set t i v) j 0 ≡ neededFor (j / 8) (j % 8)
+    go : (j : ℕ) → j < i + 1 → Dec (j ≡ i) → get_or (set t i v) j 0 ≡ needed_for (j / 8) (j % 8)
     go j k (yes z) = rw z (get_or-set_same t i v 0 (let n = o.long in omega arith) ∙ e)
     go j k (no n) = get_or-set_other t i j v 0 n ∙ o.entries j (omega arith)
 
@@ -60,20 +60,20 @@ needed-more t i v l o e = record {
 abbrev pub CellsFit : List ℕ → ℕ → ℕ → ℕ → Type 0
 CellsFit model r k n = (i : ℕ) → i < n → CellFits (get_or model (65 * r + i) 0) (i / 8) (i % 8) k
 
-pub cells-none : (model : List ℕ) (r k : ℕ) → ZeroWhere 0 (CellsFit model r k 0)
-cells-none model r k = zero-map (λ (t : Unit {0}) i l. absurd (omega arith)) (λ f. tt) zero-none
+pub cells_none : (model : List ℕ) (r k : ℕ) → ZeroWhere 0 (CellsFit model r k 0)
+cells_none model r k = zero_map (λ (t : Unit {0}) i l. absurd (omega arith)) (λ f. tt) zero_none
 
-pub cells-more : (model t : List ℕ) (r k i bad m : ℕ) → i < 64 → k ≤ 7 → Needed t
-    → get_or model (65 * r + i) 0 < 256 → m ≡ outsideOf (get_or t i 0) k → ZeroWhere bad (CellsFit model r k i)
+pub cells_more : (model t : List ℕ) (r k i bad m : ℕ) → i < 64 → k ≤ 7 → Needed t
+    → get_or model (65 * r + i) 0 < 256 → m ≡ outside_of (get_or t i 0) k → ZeroWhere bad (CellsFit model r k i)
     → ZeroWhere (bit_or bad (bit_and (get_or model (65 * r + i) 0) m)) (CellsFit model r k (i + 1))
-cells-more model t r k i bad m l few o small e z =
-    zero-map (λ w j h. go w j h (ℕ_discrete j i)) (λ f. (λ j h. f j (omega arith), f i (omega arith)))
+cells_more model t r k i bad m l few o small e z =
+    zero_map (λ w j h. go w j h (ℕ_discrete j i)) (λ f. (λ j h. f j (omega arith), f i (omega arith)))
     (zero_or bad (bit_and (get_or model (65 * r + i) 0) m) z cell)
   where
     cell : ZeroWhere (bit_and (get_or model (65 * r + i) 0) m) (CellFits (get_or model (65 * r + i) 0) (i / 8) (i % 8) k)
     cell =
-        let f : m ≡ outsideOf (neededFor (i / 8) (i % 8)) k = e ∙ ap (λ (n : ℕ). outsideOf n k) (o.1 i l) in
-        rw f (zero-cell (get_or model (65 * r + i) 0) k (i / 8) (i % 8) small few)
+        let f : m ≡ outside_of (needed_for (i / 8) (i % 8)) k = e ∙ ap (λ (n : ℕ). outside_of n k) (o.1 i l) in
+        rw f (zero_cell (get_or model (65 * r + i) 0) k (i / 8) (i % 8) small few)
 
     go : CellsFit model r k i × CellFits (get_or model (65 * r + i) 0) (i / 8) (i % 8) k → (j : ℕ) → j < i + 1
         → Dec (j ≡ i) → CellFits (get_or model (65 * r + j) 0) (j / 8) (j % 8) k
@@ -86,42 +86,42 @@ pub row_told : (model : List ℕ) (r k n bad : ℕ) (c : Bool) → n ≡ 64 → 
 row_told model r k n bad true e b z l = record { cells = λ i h. z.holds b i (omega arith); last = l }
 row_told model r k n bad false e b z l = λ w. l w.last
 
-pub row-not : (model : List ℕ) (r k n bad : ℕ) → n ≡ 64 → ¬ (bad ≡ 0) → ZeroWhere bad (CellsFit model r k n)
+pub row_not : (model : List ℕ) (r k n bad : ℕ) → n ≡ 64 → ¬ (bad ≡ 0) → ZeroWhere bad (CellsFit model r k n)
     → ¬ RowFits model r k
-row-not model r k n bad e b z w = b (z.zero (λ i h. w.cells i (omega arith)))
+row_not model r k n bad e b z w = b (z.zero (λ i h. w.cells i (omega arith)))
 
 -- the rows below n fit
 abbrev pub RowsFitBelow : List ℕ → List ℕ → ℕ → Type 0
 RowsFitBelow ks model n = (r : ℕ) → r < n → RowFits model r (get_or ks r 0)
 
-pub one-more-row : (ks model : List ℕ) (n : ℕ) → RowsFitBelow ks model n → RowFits model n (get_or ks n 0)
+pub one_more_row : (ks model : List ℕ) (n : ℕ) → RowsFitBelow ks model n → RowFits model n (get_or ks n 0)
     → RowsFitBelow ks model (n + 1)
-one-more-row ks model n f c r l = go (ℕ_discrete r n)
+one_more_row ks model n f c r l = go (ℕ_discrete r n)
   where
     go : Dec (r ≡ n) → RowFits model r (get_or ks r 0)
     go (yes e) = rw e c
     go (no ne) = f r (omega arith)
 
 -- what a test tells, after `!`
-pub told-not : (c : Bool) (Q : Type 0) → not c ≡ true → Answers c Q → Q → ⊥
-told-not true Q e t q = let z : ◌≡◌ {A = ℕ} 0 1 = cc in omega arith
-told-not false Q e t q = t q
+pub told_not : (c : Bool) (Q : Type 0) → not c ≡ true → Answers c Q → Q → ⊥
+told_not true Q e t q = let z : ◌≡◌ {A = ℕ} 0 1 = cc in omega arith
+told_not false Q e t q = t q
 
-pub told-so : (c : Bool) (Q : Type 0) → not c ≡ false → Answers c Q → Q
-told-so true Q e t = t
-told-so false Q e t = absurd (let z : ◌≡◌ {A = ℕ} 0 1 = cc in omega arith)
+pub told_so : (c : Bool) (Q : Type 0) → not c ≡ false → Answers c Q → Q
+told_so true Q e t = t
+told_so false Q e t = absurd (let z : ◌≡◌ {A = ℕ} 0 1 = cc in omega arith)
 
 -- and where it is taken as it is
-pub told-true : (c : Bool) (Q : Type 0) → c ≡ true → Answers c Q → Q
-told-true true Q e t = t
-told-true false Q e t = absurd (let z : ◌≡◌ {A = ℕ} 0 1 = cc in omega arith)
+pub told_true : (c : Bool) (Q : Type 0) → c ≡ true → Answers c Q → Q
+told_true true Q e t = t
+told_true false Q e t = absurd (let z : ◌≡◌ {A = ℕ} 0 1 = cc in omega arith)
 
-pub told-false : (c : Bool) (Q : Type 0) → c ≡ false → Answers c Q → ¬ Q
-told-false true Q e t = absurd (let z : ◌≡◌ {A = ℕ} 0 1 = cc in omega arith)
-told-false false Q e t = t
+pub told_false : (c : Bool) (Q : Type 0) → c ≡ false → Answers c Q → ¬ Q
+told_false true Q e t = absurd (let z : ◌≡◌ {A = ℕ} 0 1 = cc in omega arith)
+told_false false Q e t = t
 
-pub answers-le : (v : ℕ) → Answers (leb v 1) (v ≤ 1)
-answers-le v = go (leb v 1) refl
+pub answers_le : (v : ℕ) → Answers (leb v 1) (v ≤ 1)
+answers_le v = go (leb v 1) refl
   where
     go : (c : Bool) → leb v 1 ≡ c → Answers c (v ≤ 1)
     go true e = leb→le v 1 (rw e tt)

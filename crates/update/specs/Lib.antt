@@ -1,4 +1,4 @@
 -- A model brought up to date where one routine is replaced: the answer and what is left, and what is proved of them.
 pub mod Answer
-pub mod Contracts
-pub mod laws
+pub mod Parts
+pub mod Laws

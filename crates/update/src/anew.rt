@@ -1,7 +1,7 @@
 // The rows of one routine and of those that reach it by calls, worked out anew with the other rows given.
 ghost use Rattle.std.specs.Prelude.{◌*◌, ◌^◌, ◌≤◌, ◌<◌, length};
-ghost use Rattle.table.specs.Constants.{most-routines, row-bytes};
-ghost use Rattle.update.specs.Contracts.{MaskCleared, CanRework, Reworks};
+ghost use Rattle.table.specs.Constants.{most_routines, row_bytes};
+ghost use Rattle.update.specs.Parts.{MaskCleared, CanRework, Reworks};
 
 use settle::due::highest;
 use settle::reach::reached;
@@ -10,7 +10,7 @@ use table::limits::{MOST_ROUTINES, ROW_BYTES};
 
 // Sets the rows of the mask, all below n, to zero.
 fn clear_masked(model: &mut [u8], n: usize, mask: u64)
-    requires { (n ≤ most-routines) × (mask < 2 ^ n) × (row-bytes * n ≤ length model.old) }
+    requires { (n ≤ most_routines) × (mask < 2 ^ n) × (row_bytes * n ≤ length model.old) }
     ensures { MaskCleared mask model.old model.new }
 {
     let mut left = mask;

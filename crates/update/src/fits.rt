@@ -1,7 +1,7 @@
-// Whether the rows in a buffer are of a well-formed model.
+// Whether the rows in a buffer are of a well_formed model.
 ghost use Rattle.std.specs.Prelude.{◌≡◌, ℕ, ◌+◌, ◌*◌, ◌≤◌, ◌<◌, length, get_or};
-ghost use Rattle.table.specs.Constants.{most-params, row-names, row-bytes};
-ghost use Rattle.update.specs.Contracts.{Answers, neededFor, Needed, outsideOf, RowFits, RowsFit};
+ghost use Rattle.table.specs.Constants.{most_params, row_names, row_bytes};
+ghost use Rattle.update.specs.Parts.{Answers, needed_for, Needed, outside_of, RowFits, RowsFit};
 
 use table::limits::{ROW_BYTES, ROW_CELLS, ROW_NAMES};
 
@@ -15,8 +15,8 @@ const NO_LABEL_BITS: u8 = 248;
 
 // How many parameters a routine must have for its row to have the pair (a, b), or NEVER.
 fn needed_for(a: usize, b: usize) -> u8
-    requires { (a < row-names) × (b < row-names) }
-    ensures { result ≡ neededFor a b }
+    requires { (a < row_names) × (b < row_names) }
+    ensures { result ≡ needed_for a b }
 {
     if a == b {
         return NEVER;
@@ -40,14 +40,14 @@ fn needed() -> [u8; ROW_CELLS]
 
 // The bits that a cell may not have in a row for k parameters, where its pair needs n.
 fn bits_outside(n: u8, k: u8) -> u8
-    ensures { result ≡ outsideOf n k }
+    ensures { result ≡ outside_of n k }
 {
     if k < n { ALL_BITS } else { NO_LABEL_BITS }
 }
 
 // Whether row r is one that a routine of k parameters may have.
 fn row_fits(model: &[u8], r: usize, k: u8, needed: &[u8; ROW_CELLS]) -> bool
-    requires { (row-bytes * r + row-bytes ≤ length model.now) × (k ≤ most-params) × Needed needed.now }
+    requires { (row_bytes * r + row_bytes ≤ length model.now) × (k ≤ most_params) × Needed needed.now }
     ensures { Answers result (RowFits model.now r k) }
 {
     let start = ROW_BYTES * r;
@@ -64,7 +64,7 @@ fn row_fits(model: &[u8], r: usize, k: u8, needed: &[u8; ROW_CELLS]) -> bool
 
 // Whether the rows are ones that the routines with these parameter counts may have.
 pub fn rows_fit(ks: &[u8], model: &[u8]) -> bool
-    requires { (row-bytes * length ks.now ≤ length model.now) × ((r : ℕ) → get_or ks.now r 0 ≤ most-params) }
+    requires { (row_bytes * length ks.now ≤ length model.now) × ((r : ℕ) → get_or ks.now r 0 ≤ most_params) }
     ensures { Answers result (RowsFit ks.now model.now) }
 {
     let pairs = needed();

@@ -1,7 +1,7 @@
 // One routine replaced: a model brought up to date from the old table, the new one, the routine and the old model.
-ghost use Rattle.table.specs.laws.Sections.{AcceptedAs};
+ghost use Rattle.table.specs.Laws.Sections.{AcceptedAs};
 ghost use Rattle.update.specs.Answer.{Replaced, ReplacedAs, Fits};
-ghost use Rattle.update.specs.Contracts.{CanBringKnown, BringsKnown, CanBring, Brings, BringsAccepted};
+ghost use Rattle.update.specs.Parts.{CanBringKnown, BringsKnown, CanBring, Brings, BringsAccepted};
 
 mod anew;
 mod fits;

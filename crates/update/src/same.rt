@@ -1,6 +1,6 @@
 // Whether two tables differ in one body alone.
 ghost use Rattle.std.specs.Prelude.{◌≡◌, ◌≤◌, length};
-ghost use Rattle.update.specs.Contracts.{Answers, SameBefore, CanPass, SameAfter, CanCompare, Compares};
+ghost use Rattle.update.specs.Parts.{Answers, SameBefore, CanPass, SameAfter, CanCompare, Compares};
 
 use pairs::scan;
 

@@ -8,21 +8,21 @@ use lib.ListN.{length, get_or}
 use Rattle.table.specs.Constants.{END}
 use Rattle.table.specs.Program.{names}
 use Rattle.table.specs.WellFormed.{In}
-use Rattle.table.specs.laws.Lists.{names_in}
+use Rattle.table.specs.Laws.Lists.{names_in}
 use Rattle.table.specs.Program.{Program, empty, params, body, locals}
-use Rattle.table.specs.Encoding.{encode, encodeBodies, counts, WithinLimits}
+use Rattle.table.specs.Encoding.{encode, encode_bodies, counts, WithinLimits}
 use Rattle.rules.specs.Verdict.{Reached, then}
 use Rattle.canon.specs.Canonical.{order, position, recalled, resolved, rewritten, canonical}
-use Rattle.table.specs.laws.Formed.{well-formed}
-use Rattle.rules.specs.laws.Verdict.{reached-within}
-use Rattle.canon.specs.laws.Order.{order-reached, reached-order}
-use Rattle.canon.specs.laws.Rewrite.{recalled-agree}
-use Rattle.canon.specs.laws.Canonical.{calls-resolved}
+use Rattle.table.specs.Laws.Formed.{well_formed}
+use Rattle.rules.specs.Laws.Verdict.{reached_within}
+use Rattle.canon.specs.Laws.Order.{order_reached, reached_order}
+use Rattle.canon.specs.Laws.Rewrite.{recalled-agree}
+use Rattle.canon.specs.Laws.Canonical.{calls_resolved}
 use Rattle.order.specs.Items.{items_of}
-use Rattle.rewrite.specs.Writing.{writtenAll}
-use Rattle.rewrite.specs.laws.Written.{At, written-code, number}
+use Rattle.rewrite.specs.Writing.{written_all}
+use Rattle.rewrite.specs.Laws.Written.{At, written-code, number}
 use Rattle.rewrite.specs.Writing.{at_start, itself16}
-use Rattle.writer.specs.Contracts.{texts}
+use Rattle.writer.specs.Parts.{texts}
 
 -- the numbers from a on, n of them
 from : ℕ → ℕ → List ℕ
@@ -35,60 +35,60 @@ from_at zero a x l = absurd (omega arith)
 from_at (suc n) a zero l = omega arith
 from_at (suc n) a (suc x) l = let h = from_at n (a + 1) x (omega arith) in omega arith
 
-itself-at : (x : ℕ) → x < 16 → get_or itself16 x 0 ≡ x
+itself_at : (x : ℕ) → x < 16 → get_or itself16 x 0 ≡ x
 unfolding from
-itself-at x l = let h : get_or itself16 x 0 ≡ 0 + x = from_at 16 0 x l in omega arith
+itself_at x l = let h : get_or itself16 x 0 ≡ 0 + x = from_at 16 0 x l in omega arith
 
 module _ (P : Program) (within : WithinLimits P) (ps : List ℕ)
     (placed : (r : ℕ) → In r (order P) → get_or ps r 0 ≡ position (order P) r) where
-  at_head : (r : ℕ) → r < length P → At P (params P r) ps 0 (locals (body P r)) (names (params P r)) (λ x. x)
+  at_head_lem : (r : ℕ) → r < length P → At P (params P r) ps 0 (locals (body P r)) (names (params P r)) (λ x. x)
       (params P r + 1) (at_start (params P r))
-  at_head r l =
+  at_head_lem r l =
       let f = within.fits r l in
-      let k = f.few-params in
-      let n = f.few-locals in
+      let k = f.few_params in
+      let n = f.few_locals in
       record {
         old = omega arith;
         next = refl;
         room = omega arith;
         knows = record {
           low = λ x i. let m = names_in (params P r) x i in let a = m.1 in let b = m.2 in omega arith;
-          name = λ x i. itself-at x (let m = names_in (params P r) x i in let a = m.1 in let b = m.2 in omega arith);
+          name = λ x i. itself_at x (let m = names_in (params P r) x i in let a = m.1 in let b = m.2 in omega arith);
         };
       }
 
   -- the text of one body
-  body-text : (r : ℕ) → Reached P r
-      → writtenAll ps (at_start (params P r)) (items_of END (body P r))
+  body_text : (r : ℕ) → Reached P r
+      → written_all ps (at_start (params P r)) (items_of END (body P r))
       ≡ encode END (recalled (position (order P)) (resolved (get_or P r empty)))
-  body-text r w =
-      let ok = well-formed P within in
-      let l = reached-within P ok r w in
+  body_text r w =
+      let ok = well_formed P within in
+      let l = reached_within P ok r w in
       let f = within.fits r l in
       let k = params P r in
       (written-code P k ps 0 0 END (names k) (λ x. x) (k + 1) (body P r) f.scoped f.numbered (at_start k)
-      (at_head r l)).0
+      (at_head_lem r l)).0
       ∙ ap (encode END) (recalled-agree (number P k ps) (position (order P)) (resolved (get_or P r empty))
-      (λ q h. placed q (reached-order P ok q (then w (calls-resolved (get_or P r empty) q h)))))
+      (λ q h. placed q (reached_order P ok q (then w (calls_resolved (get_or P r empty) q h)))))
 
-  texts-some : (rs : List ℕ) → ((r : ℕ) → In r rs → In r (order P))
-      → texts ps P rs ≡ encodeBodies (map (λ r. rewritten (position (order P)) (get_or P r empty)) rs)
-  texts-some [] all = refl
-  texts-some (r ∷ rs) all =
-      let e = body-text r (order-reached P r (all r (inl refl))) in
-      let f = texts-some rs (λ q i. all q (inr i)) in
+  texts_some : (rs : List ℕ) → ((r : ℕ) → In r rs → In r (order P))
+      → texts ps P rs ≡ encode_bodies (map (λ r. rewritten (position (order P)) (get_or P r empty)) rs)
+  texts_some [] all = refl
+  texts_some (r ∷ rs) all =
+      let e = body_text r (order_reached P r (all r (inl refl))) in
+      let f = texts_some rs (λ q i. all q (inr i)) in
       cc
 
   -- the text of the bodies
-  pub texts-canonical : texts ps P (order P) ≡ encodeBodies (canonical P)
+  pub texts_canonical : texts ps P (order P) ≡ encode_bodies (canonical P)
   unfolding canonical
-  texts-canonical = texts-some (order P) (λ r i. i)
+  texts_canonical = texts_some (order P) (λ r i. i)
 
 counts_some : (P : Program) (f : ℕ → ℕ) (rs : List ℕ)
     → counts (map (λ r. rewritten f (get_or P r empty)) rs) ≡ map (params P) rs
 counts_some P f [] = refl
 counts_some P f (r ∷ rs) = ap (λ (l : List ℕ). params P r ∷ l) (counts_some P f rs)
 
-pub counts-canonical : (P : Program) → counts (canonical P) ≡ map (params P) (order P)
+pub counts_canonical : (P : Program) → counts (canonical P) ≡ map (params P) (order P)
 unfolding canonical
-counts-canonical P = counts_some P (position (order P)) (order P)
+counts_canonical P = counts_some P (position (order P)) (order P)

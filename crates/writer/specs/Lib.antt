@@ -1,4 +1,4 @@
 -- Writing a table anew: what is answered and left, and what is proved of it.
 pub mod Answer
-pub mod Contracts
-pub mod laws
+pub mod Parts
+pub mod Laws

@@ -1,10 +1,10 @@
 // The writer of canonical tables: one way to write a table.
-ghost use Rattle.table.specs.laws.Sections.{Held, AcceptedAs};
+ghost use Rattle.table.specs.Laws.Sections.{Held, AcceptedAs};
 ghost use Rattle.append.specs.Appends.{Appends};
 ghost use Rattle.order.specs.Standing.{HeldAt};
 ghost use Rattle.writer.specs.Answer.{Writes, WritesAs, Fits};
-ghost use Rattle.writer.specs.Contracts.{CanCount, countsOf, CanWrite, BodiesWritten, Ready, TableWritten};
-ghost use Rattle.writer.specs.Contracts.{WritesAt, WritesHeld, WritesAccepted};
+ghost use Rattle.writer.specs.Parts.{CanCount, counts_of, CanWrite, BodiesWritten, Ready, TableWritten};
+ghost use Rattle.writer.specs.Parts.{WritesAt, WritesHeld, WritesAccepted};
 
 use append::put_byte;
 use order::{discover, end_of};
@@ -30,7 +30,7 @@ pub enum Written {
 // Appends the parameter counts of the routines.
 fn put_counts(ks: &[u8], routines: &[u8], out: &mut [u8], p: usize) -> usize
     requires { CanCount ks.now routines.now p }
-    ensures { Appends p (countsOf ks.now routines.now)
+    ensures { Appends p (counts_of ks.now routines.now)
         out.old out.new result }
 {
     let mut i: usize = 0;

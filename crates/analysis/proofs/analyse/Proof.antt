@@ -1,13 +1,13 @@
 -- `analyse` meets its contract, by the cases of the check and of the buffer.
 use mathlib.Core.Path.{sym, ◌∙◌}
 use native.Mathlib.Omega.{arith}
-use Rattle.table.specs.Check.{checkTable}
-use Rattle.table.specs.laws.Accepts.{refused-of}
-use Rattle.table.specs.laws.Refusals.{refusals}
+use Rattle.table.specs.Check.{check_table}
+use Rattle.table.specs.Laws.Accepts.{refused_of}
+use Rattle.table.specs.Laws.Refusals.{refusals}
 use Rattle.table.proofs.check.Reads as check-reads
 use Rattle.analysis.proofs.judge.Reads as judge-reads
-use Rattle.table.specs.laws.Sections.{AcceptedAs, accepted-as}
-use Rattle.analysis.proofs.AnalyseLaws.{refused-by-check, refused-for-buffer, judged-as}
+use Rattle.table.specs.Laws.Sections.{AcceptedAs, accepted_as}
+use Rattle.analysis.proofs.AnalyseLaws.{refused_by_check, refused_for_buffer, judged_as}
 use borrow.Author.Rules.{rules}
 use Rattle.analysis.proofs.analyse.Statement.{statement}
 use Rattle.analysis.proofs.analyse.Tie as tie
@@ -21,11 +21,11 @@ AtAccepted =
     reads.Post
 
 -- and what is known of the table there
-accepted-at : (a : AtAccepted)
+accepted_at : (a : AtAccepted)
     → AcceptedAs a.before.before.before.before.before.args.table.now a.routines.given.0.0
-accepted-at a =
+accepted_at a =
     let checked = a.before.before in
-    accepted-as _ _ _ (λ i. omega (arith, checked.before.before.shared-slice-known.given i))
+    accepted_as _ _ _ (λ i. omega (arith, checked.before.before.shared-slice-known.given i))
     (sym a.routines.given.1 ∙ checked.check.ensures)
 
 check-requires : tie.Need-check-requires
@@ -38,43 +38,43 @@ enum-known-routines : tie.Need-enum-known-routines
 enum-known-routines c = search rules
 
 mul-if1 : tie.Need-overflow-mul-if1
-mul-if1 c = let t = accepted-at c.before in search rules
+mul-if1 c = let t = accepted_at c.before in search rules
 
 returns : tie.Need-returns
 returns c =
-    let t = accepted-at c.before.before in
+    let t = accepted_at c.before.before in
     let start = c.before.before.before.before.before.before.before in (
-      refused-for-buffer start.args.table.now start.args.model.now t.program t.accepts (omega arith),
+      refused_for_buffer start.args.table.now start.args.model.now t.program t.accepts (omega arith),
       (omega arith, omega arith),
     )
 
 add-judge : tie.Need-overflow-add-judge
-add-judge c = let t = accepted-at c.before.before in search rules
+add-judge c = let t = accepted_at c.before.before in search rules
 
 sub-judge : tie.Need-overflow-sub-judge
-sub-judge c = let t = accepted-at c.before.before in search rules
+sub-judge c = let t = accepted_at c.before.before in search rules
 
 part-judge-start : tie.Need-slice-bounds-judge-start
-part-judge-start c = let t = accepted-at c.before.before in search rules
+part-judge-start c = let t = accepted_at c.before.before in search rules
 
 part-judge-end : tie.Need-slice-bounds-judge-end
-part-judge-end c = let t = accepted-at c.before.before in search rules
+part-judge-end c = let t = accepted_at c.before.before in search rules
 
 add-judge-2 : tie.Need-overflow-add-judge-2
-add-judge-2 c = let t = accepted-at c.before.before.before in search rules
+add-judge-2 c = let t = accepted_at c.before.before.before in search rules
 
 sub-judge-2 : tie.Need-overflow-sub-judge-2
-sub-judge-2 c = let t = accepted-at c.before.before.before in search rules
+sub-judge-2 c = let t = accepted_at c.before.before.before in search rules
 
 part-judge-start-2 : tie.Need-slice-bounds-judge-start-2
-part-judge-start-2 c = let t = accepted-at c.before.before.before in search rules
+part-judge-start-2 c = let t = accepted_at c.before.before.before in search rules
 
 part-judge-end-2 : tie.Need-slice-bounds-judge-end-2
-part-judge-end-2 c = let t = accepted-at c.before.before.before in search rules
+part-judge-end-2 c = let t = accepted_at c.before.before.before in search rules
 
 judge-requires : tie.Need-judge-requires
 judge-requires c κs =
-    let t = accepted-at c.before.before.before.before.before in
+    let t = accepted_at c.before.before.before.before.before in
     record { program = t.program; holds = t.holds; long = omega arith }
 
 returns-2 : tie.Need-returns-2
@@ -83,9 +83,9 @@ returns-2 c =
     let start = checked.before.before.before in
     let T = start.args.table.now in
     let e = c.before.e.given.0.0 in
-    let h = refused-of (checkTable T) e (sym c.before.e.given.1 ∙ checked.check.ensures) in
+    let h = refused_of (check_table T) e (sym c.before.e.given.1 ∙ checked.check.ensures) in
     let r = refusals T e h in
-    (refused-by-check T start.args.model.now e h, (omega arith, omega arith))
+    (refused_by_check T start.args.model.now e h, (omega arith, omega arith))
 
 same_length : tie.Need-same-length
 same_length c = search rules
@@ -95,16 +95,16 @@ returns-3 c =
     let judged = c.before.before.before in
     let accepted = judged.before.before.before.before.before.before in
     let start = accepted.before.before.before.before.before in
-    let t = accepted-at accepted in
+    let t = accepted_at accepted in
     let r = judged.judge.result in
     let j = judged.judge.ensures t.program t.holds (omega arith) in (
-      judged-as start.args.table.now start.args.model.now t.program t.accepts (omega arith)
+      judged_as start.args.table.now start.args.model.now t.program t.accepts (omega arith)
           judged.judge.new.1.1.0 r.verdict r.share r.rounds j.0,
       (j.1, j.2),
     )
 
-pub analyse-spec : {M : Type 1} → statement M
-analyse-spec =
+pub analyse_spec : {M : Type 1} → statement M
+analyse_spec =
     tie.close
     (tie.spec
     check-requires

@@ -1,8 +1,8 @@
 -- `judge` meets its contract: the bodies are surveyed, and then judged.
 use mathlib.Core.Path.{refl}
 use native.Mathlib.Omega.{arith}
-use Rattle.table.specs.laws.Sections.{few}
-use Rattle.settle.specs.laws.Surveys.{cut-surveyed}
+use Rattle.table.specs.Laws.Sections.{few}
+use Rattle.settle.specs.Laws.Surveys.{cut_surveyed}
 use borrow.Author.Rules.{rules}
 use Rattle.analysis.proofs.judge.Statement.{statement}
 use Rattle.analysis.proofs.judge.Tie as tie
@@ -22,7 +22,7 @@ part-judge-surveyed-end c =
     let a = c.before.before.before.before.before.before.before.args in
     let p = c.before.before.before.before.before.before.before.requires in
     let f = few a.ks.now a.s.now (p.program, p.holds) in
-    let o = c.before.survey-bodies.ensures.starts-long in
+    let o = c.before.survey-bodies.ensures.starts_long in
     omega arith
 
 sub-judge-surveyed-2 : tie.Need-overflow-sub-judge-surveyed-2
@@ -36,7 +36,7 @@ part-judge-surveyed-end-2 c =
     let a = c.before.before.before.before.before.before.before.before.before.args in
     let p = c.before.before.before.before.before.before.before.before.before.requires in
     let f = few a.ks.now a.s.now (p.program, p.holds) in
-    let o = c.before.before.before.survey-bodies.ensures.calls-long in
+    let o = c.before.before.before.survey-bodies.ensures.calls_long in
     omega arith
 
 judge-surveyed-requires : tie.Need-judge-surveyed-requires
@@ -48,7 +48,7 @@ judge-surveyed-requires c κs =
       program = p.program;
       known = record {
         holds = p.holds;
-        surveyed = cut-surveyed a.ks.now a.s.now v.new.1.1.0 v.new.1.1.1.0 v.ensures
+        surveyed = cut_surveyed a.ks.now a.s.now v.new.1.1.0 v.new.1.1.1.0 v.ensures
             p.program p.holds;
       };
       long = p.long;
@@ -63,11 +63,11 @@ returns c =
     let v = c.before.before.before.before.before.before.before.before.survey-bodies in
     λ P h. c.before.before.judge-surveyed.ensures P (record {
       holds = h;
-      surveyed = cut-surveyed a.ks.now a.s.now v.new.1.1.0 v.new.1.1.1.0 v.ensures P h;
+      surveyed = cut_surveyed a.ks.now a.s.now v.new.1.1.0 v.new.1.1.1.0 v.ensures P h;
     })
 
-pub judge-spec : {M : Type 1} → statement M
-judge-spec =
+pub judge_spec : {M : Type 1} → statement M
+judge_spec =
     tie.close
     (tie.spec
     survey-bodies-requires

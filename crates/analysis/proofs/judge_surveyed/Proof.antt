@@ -1,6 +1,6 @@
 -- `judge_surveyed` meets its contract: the rows are settled in rounds, and the judgement is read off them.
-use Rattle.settle.specs.laws.Links.{no-callers}
-use Rattle.analysis.proofs.VerdictLaws.{few-calls, can-begin, finished_from, judged-known}
+use Rattle.settle.specs.Laws.Links.{no_callers}
+use Rattle.analysis.proofs.VerdictLaws.{few_calls, can_begin, finished_from, judged_known}
 use borrow.Author.Rules.{rules}
 use Rattle.analysis.proofs.judge_surveyed.Statement.{statement}
 use Rattle.analysis.proofs.judge_surveyed.Tie as tie
@@ -9,7 +9,7 @@ add-callers-requires : tie.Need-add-callers-requires
 add-callers-requires c κs =
     let start = c.before.before.before.before.before.before in
     let a = start.args in
-    (few-calls a.ks.now a.s.now a.starts.now a.calls.now a.model.now start.requires, no-callers)
+    (few_calls a.ks.now a.s.now a.starts.now a.calls.now a.model.now start.requires, no_callers)
 
 in-rounds-requires : tie.Need-in-rounds-requires
 in-rounds-requires c κs =
@@ -17,7 +17,7 @@ in-rounds-requires c κs =
     let start = turned.before.before.before.before.before.before.before in
     let a = start.args in
     let m = turned.add-callers in
-    can-begin a.ks.now a.s.now a.starts.now a.calls.now m.new.1.0 m.ensures a.model.now
+    can_begin a.ks.now a.s.now a.starts.now a.calls.now m.new.1.0 m.ensures a.model.now
     start.requires
 
 judgement-of-requires : tie.Need-judgement-of-requires
@@ -44,10 +44,10 @@ returns c =
     let m = turned.add-callers in
     let t = settled.in-rounds in
     let j = c.judgement-of in
-    judged-known a.ks.now a.s.now a.starts.now a.calls.now m.new.1.0 m.ensures
+    judged_known a.ks.now a.s.now a.starts.now a.calls.now m.new.1.0 m.ensures
     a.model.now t.new.1.1.1.1.0 t.new.1.1.1.1.1.0 t.result t.ensures
     j.result.verdict j.result.share j.result.rounds j.ensures
 
-pub judge-surveyed-spec : {M : Type 1} → statement M
-judge-surveyed-spec =
+pub judge_surveyed_spec : {M : Type 1} → statement M
+judge_surveyed_spec =
     tie.close (tie.spec add-callers-requires in-rounds-requires judgement-of-requires same_length returns)

@@ -1,7 +1,7 @@
 -- `vangpear_analyse` meets its contract: it gives the number of what `analyse` answers.
 use mathlib.Core.Path.{sym, ap, ◌∙◌}
 use Rattle.analysis.specs.Answer.{number_of}
-use Rattle.analysis.proofs.AnalyseLaws.{short-judged, small-refusal}
+use Rattle.analysis.proofs.AnalyseLaws.{short_judged, small_refusal}
 use borrow.Author.Rules.{rules}
 use Rattle.analysis.proofs.vangpear_analyse.Statement.{statement}
 use Rattle.analysis.proofs.vangpear_analyse.Tie as tie
@@ -16,7 +16,7 @@ verdict-number-requires : tie.Need-verdict-number-requires
 verdict-number-requires c κs =
     let r = c.before.before.before.before.before.analyse in
     let judged = c.before.v.given in
-    (short-judged r.result judged.0.0 judged.0.1.0 judged.0.1.1.0 r.ensures.1 judged.1).0
+    (short_judged r.result judged.0.0 judged.0.1.0 judged.0.1.1.0 r.ensures.1 judged.1).0
 
 cast-result : tie.Need-overflow-cast-result
 cast-result c = let h = c.verdict-number.ensures.1 in search rules
@@ -27,7 +27,7 @@ enum-known-e c = search rules
 cast-result-2 : tie.Need-overflow-cast-result-2
 cast-result-2 c =
     let r = c.before.before.before.before.before.analyse in
-    let h = small-refusal r.result c.before.e.given.0.0 r.ensures.1 c.before.e.given.1 in
+    let h = small_refusal r.result c.before.e.given.0.0 r.ensures.1 c.before.e.given.1 in
     search rules
 
 same_length : tie.Need-same-length
@@ -46,8 +46,8 @@ returns-2 c =
     let r = c.before.before.before.before.before.analyse in
     (r.result, sym (ap number_of c.before.e.given.1), r.ensures.0)
 
-pub vangpear-analyse-spec : {M : Type 1} → statement M
-vangpear-analyse-spec =
+pub vangpear_analyse_spec : {M : Type 1} → statement M
+vangpear_analyse_spec =
     tie.close
     (tie.spec
     analyse-requires

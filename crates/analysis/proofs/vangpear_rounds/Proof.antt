@@ -1,7 +1,7 @@
 -- `vangpear_rounds` meets its contract: it gives the number of rounds of what `analyse` answers.
 use mathlib.Core.Path.{sym, ap}
-use Rattle.analysis.specs.Answer.{roundsNumber}
-use Rattle.analysis.proofs.AnalyseLaws.{short-judged, small-refusal}
+use Rattle.analysis.specs.Answer.{rounds_number}
+use Rattle.analysis.proofs.AnalyseLaws.{short_judged, small_refusal}
 use borrow.Author.Rules.{rules}
 use Rattle.analysis.proofs.vangpear_rounds.Statement.{statement}
 use Rattle.analysis.proofs.vangpear_rounds.Tie as tie
@@ -17,7 +17,7 @@ add-result c =
     let r = c.before.before.before.before.before.analyse in
     let judged = c.before.rounds.given in
     let j = judged.0 in
-    let h = (short-judged r.result j.0 j.1.0 j.1.1.0 r.ensures.1 judged.1).1 in
+    let h = (short_judged r.result j.0 j.1.0 j.1.1.0 r.ensures.1 judged.1).1 in
     search rules
 
 cast-result : tie.Need-overflow-cast-result
@@ -25,7 +25,7 @@ cast-result c =
     let r = c.before.before.before.before.before.analyse in
     let judged = c.before.rounds.given in
     let j = judged.0 in
-    let h = (short-judged r.result j.0 j.1.0 j.1.1.0 r.ensures.1 judged.1).1 in
+    let h = (short_judged r.result j.0 j.1.0 j.1.1.0 r.ensures.1 judged.1).1 in
     search rules
 
 enum-known-e : tie.Need-enum-known-e
@@ -34,7 +34,7 @@ enum-known-e c = search rules
 cast-result-2 : tie.Need-overflow-cast-result-2
 cast-result-2 c =
     let r = c.before.before.before.before.before.analyse in
-    let h = small-refusal r.result c.before.e.given.0.0 r.ensures.1 c.before.e.given.1 in
+    let h = small_refusal r.result c.before.e.given.0.0 r.ensures.1 c.before.e.given.1 in
     search rules
 
 same_length : tie.Need-same-length
@@ -43,7 +43,7 @@ same_length c = search rules
 returns : tie.Need-returns
 returns c =
     let r = c.before.before.before.before.before.analyse in
-    (r.result, sym (ap roundsNumber c.before.rounds.given.1), r.ensures.0)
+    (r.result, sym (ap rounds_number c.before.rounds.given.1), r.ensures.0)
 
 same-length-2 : tie.Need-same-length-2
 same-length-2 c = search rules
@@ -51,10 +51,10 @@ same-length-2 c = search rules
 returns-2 : tie.Need-returns-2
 returns-2 c =
     let r = c.before.before.before.before.before.analyse in
-    (r.result, sym (ap roundsNumber c.before.e.given.1), r.ensures.0)
+    (r.result, sym (ap rounds_number c.before.e.given.1), r.ensures.0)
 
-pub vangpear-rounds-spec : {M : Type 1} → statement M
-vangpear-rounds-spec =
+pub vangpear_rounds_spec : {M : Type 1} → statement M
+vangpear_rounds_spec =
     tie.close
     (tie.spec
     analyse-requires

@@ -1,8 +1,8 @@
 -- `verdict_number` meets its contract: a ring's numbers are small.
 use mathlib.Core.Path.{sym, ap}
 use native.Mathlib.Omega.{arith}
-use Rattle.analysis.specs.Answer.{verdictNumber}
-use Rattle.analysis.proofs.AnalyseLaws.{short-ring}
+use Rattle.analysis.specs.Answer.{verdict_number}
+use Rattle.analysis.proofs.AnalyseLaws.{short_ring}
 use borrow.Author.Rules.{rules}
 use Rattle.analysis.proofs.verdict_number.Statement.{statement}
 use Rattle.analysis.proofs.verdict_number.Tie as tie
@@ -15,42 +15,42 @@ enum-known-v c = search rules
 
 mul-result : tie.Need-overflow-mul-result
 mul-result c =
-    let h = short-ring c.before.before.before.before.args.v c.before.before.v.given.0.0
+    let h = short_ring c.before.before.before.before.args.v c.before.before.v.given.0.0
     c.before.before.before.before.requires c.before.before.v.given.1 in
     search rules
 
 add-result : tie.Need-overflow-add-result
 add-result c =
-    let h = short-ring c.before.before.before.before.args.v c.before.before.v.given.0.0
+    let h = short_ring c.before.before.before.before.args.v c.before.before.v.given.0.0
     c.before.before.before.before.requires c.before.before.v.given.1 in
     search rules
 
 mul-result-2 : tie.Need-overflow-mul-result-2
 mul-result-2 c =
-    let h = short-ring c.before.before.before.before.before.args.v
+    let h = short_ring c.before.before.before.before.before.args.v
     c.before.before.before.v.given.0.0 c.before.before.before.before.before.requires
     c.before.before.before.v.given.1 in
     search rules
 
 add-result-2 : tie.Need-overflow-add-result-2
 add-result-2 c =
-    let h = short-ring c.before.before.before.before.before.args.v
+    let h = short_ring c.before.before.before.before.before.args.v
     c.before.before.before.v.given.0.0 c.before.before.before.before.before.requires
     c.before.before.before.v.given.1 in
     search rules
 
 returns : tie.Need-returns
-returns c = (sym (ap verdictNumber c.enum_told.given.1), omega arith)
+returns c = (sym (ap verdict_number c.enum_told.given.1), omega arith)
 
 returns-2 : tie.Need-returns-2
 returns-2 c =
-    let h = short-ring c.before.before.before.before.before.args.v
+    let h = short_ring c.before.before.before.before.before.args.v
     c.before.before.before.v.given.0.0 c.before.before.before.before.before.requires
     c.before.before.before.v.given.1 in
-    (sym (ap verdictNumber c.before.before.before.v.given.1), omega arith)
+    (sym (ap verdict_number c.before.before.before.v.given.1), omega arith)
 
-pub verdict-number-spec : {M : Type 1} → statement M
-verdict-number-spec =
+pub verdict_number_spec : {M : Type 1} → statement M
+verdict_number_spec =
     tie.close
     (tie.spec
     enum_told

@@ -3,7 +3,7 @@ use mathlib.Core.Path.{◌≡◌}
 use Prim.Native.Nat.{◌+◌, ◌≤◌, ◌-◌}
 use lib.ListN.{length, take}
 use Rattle.append.specs.Appends.{Appends}
-use Rattle.append.specs.laws.Appending.{nothing, one_more, all, same_size}
+use Rattle.append.specs.Laws.Appending.{nothing, one_more, all, same_size}
 use borrow.Author.Rules.{rules}
 use native.Mathlib.Omega.{arith}
 use Rattle.append.proofs.put.Statement.{statement}

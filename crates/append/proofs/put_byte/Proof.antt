@@ -1,6 +1,6 @@
 -- `put_byte` meets its contract: past the end of the buffer a store would change nothing.
 use native.Mathlib.Omega.{arith}
-use Rattle.append.specs.laws.Appending.{stored, left_out}
+use Rattle.append.specs.Laws.Appending.{stored, left_out}
 use borrow.Author.Rules.{rules}
 use Rattle.append.proofs.put_byte.Statement.{statement}
 use Rattle.append.proofs.put_byte.Tie as tie
@@ -23,6 +23,6 @@ same_length c = search rules
 returns-2 : tie.Need-returns-2
 returns-2 c = stored _ _ _
 
-pub put-byte-spec : {M : Type 1} → statement M
-put-byte-spec =
+pub put_byte_spec : {M : Type 1} → statement M
+put_byte_spec =
     tie.close (tie.spec add-result returns slice-write-out add-result-2 same_length returns-2)

@@ -55,8 +55,8 @@ returns c =
     let a = c.before.before.args in
     copied_all a.r l.i a.model.now a.old.now l.old (omega arith) l.invariant
 
-pub copy-cells-spec : {M : Type 1} → statement M
-copy-cells-spec =
+pub copy_cells_spec : {M : Type 1} → statement M
+copy_cells_spec =
     tie.close
     (tie.spec
     invariant-loop

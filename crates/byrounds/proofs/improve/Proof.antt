@@ -1,7 +1,7 @@
 -- `improve` meets its contract: what is worked out in the body from the rows of the round before is added to the row.
 use native.Mathlib.Omega.{arith}
-use Rattle.table.specs.laws.Sections.{routines, few-params}
-use Rattle.settle.specs.laws.Improving.{improves}
+use Rattle.table.specs.Laws.Sections.{routines, few_params}
+use Rattle.settle.specs.Laws.Improving.{improves}
 use borrow.Author.Rules.{rules}
 use Rattle.byrounds.proofs.improve.Statement.{statement}
 use Rattle.byrounds.proofs.improve.Tie as tie
@@ -29,7 +29,7 @@ with-row-requires c κs =
     let start = sized.before.before.before.before.before.before in
     let a = start.args in
     let p = start.requires in
-    let f = few-params p.program a.ks.now a.s.now p.body_of.holds a.r in
+    let f = few_params p.program a.ks.now a.s.now p.body_of.holds a.r in
     let e = sized.size.ensures.0 in
     let l = p.long in
     let b = p.body_of.listed in
@@ -48,7 +48,7 @@ returns c =
     improves a.ks.now a.s.now a.at a.r a.old.now sized.size.result sized.size.ensures.0
     a.model.now _ g.result (omega (arith, g.type-inv.1.0.1)) _ _ _ g.ensures added.with_row.ensures
 
-pub improve-spec : {M : Type 1} → statement M
-improve-spec =
+pub improve_spec : {M : Type 1} → statement M
+improve_spec =
     tie.close
     (tie.spec shared-slice-read-size size-requires worked-out-requires with-row-requires same_length returns)

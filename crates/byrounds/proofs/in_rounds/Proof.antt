@@ -1,7 +1,7 @@
 -- `in_rounds` meets its contract: the rows are cleared, and the rounds begin with them and with an array of zeros that has
 -- room for as many.
 use mathlib.Core.Path.{◌∙◌}
-use Rattle.byrounds.proofs.GoingLaws.{few-rows, room, all-zero, done-from}
+use Rattle.byrounds.proofs.GoingLaws.{few_rows, room, all_zero, done_from}
 use native.Mathlib.Omega.{arith}
 use borrow.Author.Rules.{rules}
 use Rattle.byrounds.proofs.in_rounds.Statement.{statement}
@@ -32,7 +32,7 @@ rounds-requires c κs =
     let start = cleared.before.before.before.before.before.before in
     let a = start.args in
     let k = cleared.clear in
-    all-zero a.ks.now a.s.now a.starts.now a.callers.now a.model.now a.names.now start.requires
+    all_zero a.ks.now a.s.now a.starts.now a.callers.now a.model.now a.names.now start.requires
     k.new.0 _ k.ensures (omega arith) tt
 
 same_length : tie.Need-same-length
@@ -49,7 +49,7 @@ returns c =
     let a = start.args in
     let k = cleared.clear in
     let w = rounded.rounds in
-    done-from a.ks.now a.s.now a.starts.now a.callers.now a.model.now a.names.now start.requires
+    done_from a.ks.now a.s.now a.starts.now a.callers.now a.model.now a.names.now start.requires
     k.new.0 w.new.1.1.1.1.1.0 w.new.1.1.1.1.1.1.0 w.result k.ensures w.ensures
 
 slice-aggregate-rounds-2 : tie.Need-slice-aggregate-rounds-2
@@ -61,9 +61,9 @@ rounds-requires-2 c κs =
     let start = cleared.before.before.before.before.before.before in
     let a = start.args in
     let k = cleared.clear in
-    all-zero a.ks.now a.s.now a.starts.now a.callers.now a.model.now a.names.now start.requires
+    all_zero a.ks.now a.s.now a.starts.now a.callers.now a.model.now a.names.now start.requires
     k.new.0 _ k.ensures
-    (few-rows a.ks.now a.s.now a.starts.now a.callers.now a.model.now a.names.now start.requires)
+    (few_rows a.ks.now a.s.now a.starts.now a.callers.now a.model.now a.names.now start.requires)
     tt
 
 same-length-2 : tie.Need-same-length-2
@@ -80,11 +80,11 @@ returns-2 c =
     let a = start.args in
     let k = cleared.clear in
     let w = rounded.rounds2 in
-    done-from a.ks.now a.s.now a.starts.now a.callers.now a.model.now a.names.now start.requires
+    done_from a.ks.now a.s.now a.starts.now a.callers.now a.model.now a.names.now start.requires
     k.new.0 w.new.1.1.1.1.1.0 w.new.1.1.1.1.1.1.0 w.result k.ensures w.ensures
 
-pub in-rounds-spec : {M : Type 1} → statement M
-in-rounds-spec =
+pub in_rounds_spec : {M : Type 1} → statement M
+in_rounds_spec =
     tie.close
     (tie.spec
     mul-clear

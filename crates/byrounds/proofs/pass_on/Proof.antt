@@ -2,7 +2,7 @@
 -- become due.
 use native.Mathlib.Omega.{arith}
 use Rattle.byrounds.specs.Round.{CanPass}
-use Rattle.byrounds.proofs.PassLaws.{n, Passing, Chosen, chosen, passing-start, passing-turn, passing-end}
+use Rattle.byrounds.proofs.PassLaws.{n, Passing, Chosen, chosen, passing_start, passing_turn, passing_end}
 use borrow.Author.Rules.{rules}
 use Rattle.settle.proofs.due.highest.Reads as highest-reads
 use Rattle.byrounds.proofs.copy_cells.Reads as copy-reads
@@ -38,7 +38,7 @@ here h =
 loop-holds : tie.Need-loop-init invariant-loop decreases-loop
 loop-holds c =
     let a = c.before.before.args in
-    λ can. passing-start a.callers.now a.moved a.model.now a.old.now can
+    λ can. passing_start a.callers.now a.moved a.model.now a.old.now can
 
 highest-requires : tie.Need-highest-requires invariant-loop decreases-loop
 highest-requires c κs = omega arith
@@ -47,10 +47,10 @@ shl-left : tie.Need-overflow-shl-left invariant-loop decreases-loop
 shl-left c = let t = (here c).small in search rules
 
 sub-left : tie.Need-overflow-sub-left invariant-loop decreases-loop
-sub-left c = (here c).taken-off
+sub-left c = (here c).taken_off
 
 copy-cells-requires : tie.Need-copy-cells-requires invariant-loop decreases-loop
-copy-cells-requires c κs = (here c.before).row-there
+copy-cells-requires c κs = (here c.before).row_there
 
 mul-due : tie.Need-overflow-mul-due invariant-loop decreases-loop
 mul-due c = let t = (here c.before.before.before.before).small in search rules
@@ -67,7 +67,7 @@ loop-again c =
     let turn = copied.before.before in
     let l = turn.before.before.loop in
     let a = turn.before.before.before.before.before.args in
-    λ can. passing-turn a.callers.now a.moved a.model.now a.old.now can l.old l.left l.due
+    λ can. passing_turn a.callers.now a.moved a.model.now a.old.now can l.old l.left l.due
     turn.highest.result (l.invariant can) turn.highest.ensures copied.copy-cells.new.1.1.0
     copied.copy-cells.ensures
 
@@ -79,11 +79,11 @@ returns c =
     let l = c.before.loop in
     let start = c.before.before.before.before in
     let a = start.args in
-    passing-end a.callers.now a.moved a.model.now a.old.now start.requires l.old l.left l.due
+    passing_end a.callers.now a.moved a.model.now a.old.now start.requires l.old l.left l.due
     (omega arith) (l.invariant start.requires)
 
-pub pass-on-spec : {M : Type 1} → statement M
-pass-on-spec =
+pub pass_on_spec : {M : Type 1} → statement M
+pass_on_spec =
     tie.close
     (tie.spec
     invariant-loop

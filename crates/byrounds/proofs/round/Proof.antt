@@ -1,6 +1,6 @@
 -- `round` meets its contract: at each turn the highest routine that is left gets its row of this round.
 use native.Mathlib.Omega.{arith}
-use Rattle.byrounds.proofs.TurnLaws.{Midway, Chosen, midway_start, chosen, turn_moved, turn-still, midway_end}
+use Rattle.byrounds.proofs.TurnLaws.{Midway, Chosen, midway_start, chosen, turn_moved, turn_still, midway_end}
 use borrow.Author.Rules.{rules}
 use Rattle.settle.proofs.due.highest.Reads as highest-reads
 use Rattle.byrounds.proofs.improve.Reads as improve-reads
@@ -48,13 +48,13 @@ shl-left : tie.Need-overflow-shl-left invariant-loop decreases-loop
 shl-left c = let t = (here c).small in search rules
 
 sub-left : tie.Need-overflow-sub-left invariant-loop decreases-loop
-sub-left c = (here c).taken-off
+sub-left c = (here c).taken_off
 
 mul-improve : tie.Need-overflow-mul-improve invariant-loop decreases-loop
-mul-improve c = let t = (here c).start-there in search rules
+mul-improve c = let t = (here c).start_there in search rules
 
 shared-slice-read-improve : tie.Need-shared-slice-read-improve invariant-loop decreases-loop
-shared-slice-read-improve c = (here c.before).start-there
+shared-slice-read-improve c = (here c.before).start_there
 
 improve-requires : tie.Need-improve-requires invariant-loop decreases-loop
 improve-requires c κs = (here c.before.before).ready
@@ -62,8 +62,8 @@ improve-requires c κs = (here c.before.before).ready
 element-write-names : tie.Need-element-write-names invariant-loop decreases-loop
 element-write-names c =
     let turn = c.before.before.before.before.before in
-    let e = turn.before.before.loop.invariant.names-long in
-    let t = (here turn).name-there in
+    let e = turn.before.before.loop.invariant.names_long in
+    let t = (here turn).name_there in
     omega arith
 
 shl-moved : tie.Need-overflow-shl-moved invariant-loop decreases-loop
@@ -96,7 +96,7 @@ loop-again-2 c =
     let start = turn.before.before.before.before.before.before.before.before in
     let a = start.args in
     let w = improved.improve in
-    turn-still a.ks.now a.s.now a.starts.now a.due a.old.now a.model.now a.names.now
+    turn_still a.ks.now a.s.now a.starts.now a.due a.old.now a.model.now a.names.now
     start.requires l.model l.names l.left l.changed l.moved turn.highest.result l.invariant
     turn.highest.ensures w.new.1.1.1.1.1.0 w.result.cells w.result.last w.result.name
     w.ensures w.auto.1.1.1.1.1.0 c.if1.false
@@ -112,8 +112,8 @@ returns c =
     midway_end a.ks.now a.s.now a.starts.now a.due a.old.now a.model.now a.names.now
     start.requires l.model l.names l.left l.changed l.moved (omega arith) l.invariant
 
-pub round-spec : {M : Type 1} → statement M
-round-spec =
+pub round_spec : {M : Type 1} → statement M
+round_spec =
     tie.close
     (tie.spec
     invariant-loop

@@ -4,8 +4,8 @@ use mathlib.Core.Path.{◌∙◌}
 use Prim.Native.Nat.{◌+◌, ◌-◌, ◌*◌}
 use native.Mathlib.Omega.{arith}
 use lib.ListN.{length}
-use Rattle.byrounds.proofs.GoingLaws.{Numbered, few-routines, going_start, few-done, round-ready, last-round}
-use Rattle.byrounds.proofs.GoingLaws.{can-pass, next-round, flag-down, flag_up}
+use Rattle.byrounds.proofs.GoingLaws.{Numbered, few_routines, going_start, few_done, round_ready, last_round}
+use Rattle.byrounds.proofs.GoingLaws.{can_pass, next_round, flag_down, flag_up}
 use Rattle.byrounds.proofs.rounds.Statement.{statement}
 use Rattle.byrounds.proofs.rounds.Tie as tie
 
@@ -20,7 +20,7 @@ all-requires : tie.Need-all-requires invariant-loop decreases-loop
 all-requires c κs =
     let start = c.before.before.before.before.before in
     let a = start.args in
-    few-routines a.ks.now a.s.now a.starts.now a.callers.now a.old.now a.model.now
+    few_routines a.ks.now a.s.now a.starts.now a.callers.now a.old.now a.model.now
     a.names.now start.requires
 
 loop-holds : tie.Need-loop-init invariant-loop decreases-loop
@@ -40,13 +40,13 @@ round-requires c κs =
     let l = turn.loop in
     let start = turn.before.before.before.before.before.before.before in
     let a = start.args in
-    round-ready a.ks.now a.s.now a.starts.now a.callers.now a.old.now a.model.now
+    round_ready a.ks.now a.s.now a.starts.now a.callers.now a.old.now a.model.now
     a.names.now start.requires l.old l.model l.names l.due l.invariant.done l.invariant.going
 
 same_length : tie.Need-same-length invariant-loop decreases-loop
 same_length c =
     let turn = c.before.before.before.before.before.before.before.before in
-    turn.loop.invariant.going.old-same
+    turn.loop.invariant.going.old_same
 
 same-length-2 : tie.Need-same-length-2 invariant-loop decreases-loop
 same-length-2 c =
@@ -63,10 +63,10 @@ returns c =
     let start = turn.before.before.before.before.before.before.before in
     let a = start.args in
     rw l.invariant.next
-    (last-round a.ks.now a.s.now a.starts.now a.callers.now a.old.now a.model.now
+    (last_round a.ks.now a.s.now a.starts.now a.callers.now a.old.now a.model.now
     a.names.now start.requires l.old l.model l.names l.due l.invariant.done l.invariant.going
     w.new.1.1.1.1.1.0 w.new.1.1.1.1.1.1.0 w.result.changed w.result.moved w.ensures
-    (flag-down w.result.changed c.if1.true))
+    (flag_down w.result.changed c.if1.true))
 
 pass-on-requires : tie.Need-pass-on-requires invariant-loop decreases-loop
 pass-on-requires c κs =
@@ -76,7 +76,7 @@ pass-on-requires c κs =
     let l = turn.loop in
     let start = turn.before.before.before.before.before.before.before in
     let a = start.args in
-    can-pass a.ks.now a.s.now a.starts.now a.callers.now a.old.now a.model.now
+    can_pass a.ks.now a.s.now a.starts.now a.callers.now a.old.now a.model.now
     a.names.now start.requires l.old l.model l.names l.due l.invariant.done l.invariant.going
     w.new.1.1.1.1.1.0 w.new.1.1.1.1.1.1.0 w.result.changed w.result.moved w.ensures
 
@@ -88,9 +88,9 @@ add-number c =
     let l = turn.loop in
     let start = turn.before.before.before.before.before.before.before in
     let a = start.args in
-    let h = few-done a.ks.now a.s.now a.starts.now a.callers.now a.old.now a.model.now
+    let h = few_done a.ks.now a.s.now a.starts.now a.callers.now a.old.now a.model.now
     a.names.now start.requires l.old l.model l.names l.due l.invariant.done l.invariant.going in
-    let f = few-routines a.ks.now a.s.now a.starts.now a.callers.now a.old.now a.model.now
+    let f = few_routines a.ks.now a.s.now a.starts.now a.callers.now a.old.now a.model.now
     a.names.now start.requires in
     let e = l.invariant.next in
     omega arith
@@ -103,7 +103,7 @@ loop-less c =
     let l = turn.loop in
     let start = turn.before.before.before.before.before.before.before in
     let a = start.args in
-    let h = few-done a.ks.now a.s.now a.starts.now a.callers.now a.old.now a.model.now
+    let h = few_done a.ks.now a.s.now a.starts.now a.callers.now a.old.now a.model.now
     a.names.now start.requires l.old l.model l.names l.due l.invariant.done l.invariant.going in
     let e = l.invariant.next in
     omega arith
@@ -122,14 +122,14 @@ loop-again c =
     record {
       done = l.invariant.done + 1;
       next = let e = l.invariant.next in omega arith;
-      going = next-round a.ks.now a.s.now a.starts.now a.callers.now a.old.now a.model.now
+      going = next_round a.ks.now a.s.now a.starts.now a.callers.now a.old.now a.model.now
           a.names.now start.requires l.old l.model l.names l.due l.invariant.done l.invariant.going
           w.new.1.1.1.1.1.0 w.new.1.1.1.1.1.1.0 w.result.changed w.result.moved w.ensures
           (flag_up w.result.changed tested.if1.false) d.new.1.1.1.0 d.result d.ensures;
     }
 
-pub rounds-spec : {M : Type 1} → statement M
-rounds-spec =
+pub rounds_spec : {M : Type 1} → statement M
+rounds_spec =
     tie.close
     (tie.spec
     invariant-loop

@@ -74,7 +74,7 @@ returns c =
     let r = c.before.before in
     let i = analysis r in
     let a = (begun i).args in
-    let k = r.before.is-clear in
+    let k = r.before.is_clear in
     c.is_stuck.ensures
     ∙ never_both a.table.now a.model.now _ a.schedule.now a.n i.analyse.result r.run-fresh.result
     i.analyse.ensures.0 r.run-fresh.ensures (sym k.ensures ∙ c.before.if1.true)
@@ -85,8 +85,8 @@ same-length-2 c = search rules
 returns-2 : tie.Need-returns-2
 returns-2 c = search rules
 
-pub clear-but-stuck-spec : {M : Type 1} → statement M
-clear-but-stuck-spec =
+pub clear_but_stuck_spec : {M : Type 1} → statement M
+clear_but_stuck_spec =
     tie.close
     (tie.spec
     analyse-requires

@@ -2,7 +2,7 @@
 use borrow.Author.Rules.{rules}
 use mathlib.Core.Path.{sym}
 use lib.Seq.{length-take-le}
-use Rattle.writer.specs.laws.Fits.{small-length}
+use Rattle.writer.specs.Laws.Fits.{small_length}
 use Rattle.canonical.proofs.answer.Statement.{statement}
 use Rattle.canonical.proofs.answer.Tie as tie
 
@@ -18,7 +18,7 @@ enum-known-n c = search rules
 array-share-prefix-out : tie.Need-array-share-prefix-out
 array-share-prefix-out c =
     let wrote = c.before.before.before.before.canonical in
-    let l = small-length wrote.result c.before.n.given.0.0 wrote.ensures.1 c.before.n.given.1 in
+    let l = small_length wrote.result c.before.n.given.0.0 wrote.ensures.1 c.before.n.given.1 in
     search (rules, l)
 
 slice-aggregate-write-table : tie.Need-slice-aggregate-write-table
@@ -42,8 +42,8 @@ returns c = search rules
 returns-2 : tie.Need-returns-2
 returns-2 c = search rules
 
-pub answer-spec : {M : Type 1} → statement M
-answer-spec =
+pub answer_spec : {M : Type 1} → statement M
+answer_spec =
     tie.close
     (tie.spec
     slice-aggregate-canonical

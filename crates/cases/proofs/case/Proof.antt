@@ -37,8 +37,8 @@ write-all-requires c κs = search rules
 returns : tie.Need-returns
 returns c = search rules
 
-pub case-spec : {M : Type 1} → statement M
-case-spec =
+pub case_spec : {M : Type 1} → statement M
+case_spec =
     tie.close
     (tie.spec large-buffer-requires array-borrow-prefix-model slice-aggregate-list slice-aggregate-list-2
     list-requires array-share-prefix-text slice-aggregate-write-all write-all-requires returns)

@@ -77,8 +77,8 @@ loop-again c = search rules
 returns-3 : tie.Need-returns-3 invariant-loop decreases-loop
 returns-3 c = search rules
 
-pub frames-spec : {M : Type 1} → statement M
-frames-spec =
+pub frames_spec : {M : Type 1} → statement M
+frames_spec =
     tie.close
     (tie.spec invariant-loop decreases-loop loop-holds sub-left returns shared-slice-read-number add-number
     shared-slice-read-number-2 number-requires add-number-2 shared-slice-read-number-3 add-number-3

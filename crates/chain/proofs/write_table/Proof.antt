@@ -2,7 +2,7 @@
 use borrow.Author.Rules.{rules}
 use mathlib.Core.Path.{sym}
 use lib.Seq.{length-take-le}
-use Rattle.dearest.specs.laws.Dearest.{written-short}
+use Rattle.dearest.specs.Laws.Dearest.{written_short}
 use Rattle.chain.proofs.write_table.Statement.{statement}
 use Rattle.chain.proofs.write_table.Tie as tie
 
@@ -15,7 +15,7 @@ write-chain-requires c κs = search rules
 array-share-prefix-table : tie.Need-array-share-prefix-table
 array-share-prefix-table c =
     let wrote = c.before in
-    let l = written-short wrote.before.before.args.n wrote.write-chain.ensures in
+    let l = written_short wrote.before.before.args.n wrote.write-chain.ensures in
     search (rules, l)
 
 slice-aggregate-write-all : tie.Need-slice-aggregate-write-all
@@ -27,8 +27,8 @@ write-all-requires c κs = search rules
 returns : tie.Need-returns
 returns c = search rules
 
-pub write-table-spec : {M : Type 1} → statement M
-write-table-spec =
+pub write_table_spec : {M : Type 1} → statement M
+write_table_spec =
     tie.close
     (tie.spec
     slice-aggregate-write-chain

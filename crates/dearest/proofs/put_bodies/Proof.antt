@@ -1,11 +1,11 @@
 -- `put_bodies` meets its contract: after r turns the bodies of the first r routines are written.
 use Prim.Native.Nat.{◌+◌, ◌-◌, ◌*◌, ◌≤◌}
 use lib.ListN.{take}
-use Rattle.table.specs.Encoding.{encodeBodies}
+use Rattle.table.specs.Encoding.{encode_bodies}
 use Rattle.append.specs.Appends.{Appends}
-use Rattle.append.specs.laws.Appending.{nothing, same_size}
+use Rattle.append.specs.Laws.Appending.{nothing, same_size}
 use Rattle.rounds.specs.Chain.{chain}
-use Rattle.dearest.specs.laws.Parts.{bodies-more, bodies-all}
+use Rattle.dearest.specs.Laws.Parts.{bodies_more, bodies_all}
 use borrow.Author.Rules.{rules}
 use native.Mathlib.Omega.{arith}
 use Rattle.dearest.proofs.put_bodies.Statement.{statement}
@@ -13,7 +13,7 @@ use Rattle.dearest.proofs.put_bodies.Tie as tie
 
 abbrev invariant-loop : tie.invariant-loop
 invariant-loop out₀ at n p₀ r₀ out p r =
-    (r ≤ n) × (p ≤ at + 17 * r) × Appends at (encodeBodies (take r (chain n))) out₀ out p
+    (r ≤ n) × (p ≤ at + 17 * r) × Appends at (encode_bodies (take r (chain n))) out₀ out p
 
 abbrev decreases-loop : tie.decreases-loop
 decreases-loop out₀ at n p₀ r₀ out p r = n - r
@@ -38,7 +38,7 @@ loop-again c =
     let l = turn.loop in
     let a = turn.before.before.args in
     let e = f.1 in
-    (omega arith, omega arith, bodies-more a.n l.r (omega arith) l.invariant.2 f.0)
+    (omega arith, omega arith, bodies_more a.n l.r (omega arith) l.invariant.2 f.0)
 
 same_length : tie.Need-same-length invariant-loop decreases-loop
 same_length c = same_size c.before.loop.invariant.2
@@ -48,10 +48,10 @@ returns c =
     let turn = c.before in
     let l = turn.loop in
     let a = turn.before.before.args in
-    bodies-all a.n l.r (omega arith) l.invariant.2
+    bodies_all a.n l.r (omega arith) l.invariant.2
 
-pub put-bodies-spec : {M : Type 1} → statement M
-put-bodies-spec =
+pub put_bodies_spec : {M : Type 1} → statement M
+put_bodies_spec =
     tie.close
     (tie.spec
     invariant-loop

@@ -1,6 +1,6 @@
 -- `put_body` meets its contract: all but the last routine call the next one.
-use Rattle.append.specs.laws.Appending.{equal-text}
-use Rattle.dearest.specs.laws.Parts.{body-passing, body-opposing}
+use Rattle.append.specs.Laws.Appending.{equal_text}
+use Rattle.dearest.specs.Laws.Parts.{body_passing, body_opposing}
 use native.Mathlib.Omega.{arith}
 use borrow.Author.Rules.{rules}
 use Rattle.dearest.proofs.put_body.Statement.{statement}
@@ -30,7 +30,7 @@ returns c =
     let f = wrote.put-passing.ensures in
     let a = wrote.before.before.before.before.args in
     let e = f.place in
-    (equal-text (body-passing a.n a.r (omega arith)) f, omega arith)
+    (equal_text (body_passing a.n a.r (omega arith)) f, omega arith)
 
 same-length-2 : tie.Need-same-length-2
 same-length-2 c = search rules
@@ -43,10 +43,10 @@ returns-2 c =
     let a = start.args in
     let h = start.requires.1 in
     let e = f.place in
-    (equal-text (body-opposing a.n a.r (omega arith)) f, omega arith)
+    (equal_text (body_opposing a.n a.r (omega arith)) f, omega arith)
 
-pub put-body-spec : {M : Type 1} → statement M
-put-body-spec =
+pub put_body_spec : {M : Type 1} → statement M
+put_body_spec =
     tie.close
     (tie.spec
     add-if1

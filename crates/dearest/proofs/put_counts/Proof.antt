@@ -4,9 +4,9 @@ use Prim.Native.Nat.{◌+◌, ◌-◌, ◌≤◌}
 use lib.ListN.{take}
 use Rattle.table.specs.Encoding.{counts}
 use Rattle.append.specs.Appends.{Appends}
-use Rattle.append.specs.laws.Appending.{nothing, same_size}
+use Rattle.append.specs.Laws.Appending.{nothing, same_size}
 use Rattle.rounds.specs.Chain.{chain}
-use Rattle.dearest.specs.laws.Parts.{counts-more, counts_all}
+use Rattle.dearest.specs.Laws.Parts.{counts_more, counts_all}
 use borrow.Author.Rules.{rules}
 use native.Mathlib.Omega.{arith}
 use Rattle.dearest.proofs.put_counts.Statement.{statement}
@@ -42,7 +42,7 @@ loop-again c =
     let l = turn.loop in
     let a = turn.before.before.args in
     let e = f.place in
-    (omega arith, omega arith, counts-more a.n l.r _ (omega arith) told.params_of.ensures l.invariant.2 f)
+    (omega arith, omega arith, counts_more a.n l.r _ (omega arith) told.params_of.ensures l.invariant.2 f)
 
 same_length : tie.Need-same-length invariant-loop decreases-loop
 same_length c = same_size c.before.loop.invariant.2
@@ -54,8 +54,8 @@ returns c =
     let a = turn.before.before.args in
     counts_all a.n l.r (omega arith) l.invariant.2
 
-pub put-counts-spec : {M : Type 1} → statement M
-put-counts-spec =
+pub put_counts_spec : {M : Type 1} → statement M
+put_counts_spec =
     tie.close
     (tie.spec
     invariant-loop

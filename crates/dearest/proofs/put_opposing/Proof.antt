@@ -1,5 +1,5 @@
 -- `put_opposing` meets its contract: its beginning, and then the two pairs of locks.
-use Rattle.append.specs.laws.Appending.{then}
+use Rattle.append.specs.Laws.Appending.{then}
 use borrow.Author.Rules.{rules}
 use Rattle.dearest.proofs.put_opposing.Statement.{statement}
 use Rattle.dearest.proofs.put_opposing.Tie as tie
@@ -26,7 +26,7 @@ returns c =
     let begun = first.before.before.before.before in
     then begun.put.ensures (then first.put-locks.ensures second.put-locks2.ensures)
 
-pub put-opposing-spec : {M : Type 1} → statement M
-put-opposing-spec =
+pub put_opposing_spec : {M : Type 1} → statement M
+put_opposing_spec =
     tie.close
     (tie.spec slice-aggregate-put put-requires put-locks-requires put-locks-requires-2 same_length returns)

@@ -1,6 +1,6 @@
 -- `put_table` meets its contract: the parts of the table, one after the other.
 use mathlib.Core.Path.{refl}
-use Rattle.dearest.specs.laws.Parts.{counts-long, table-parts}
+use Rattle.dearest.specs.Laws.Parts.{counts_long, table_parts}
 use borrow.Author.Rules.{rules}
 use Rattle.dearest.proofs.put_table.Statement.{statement}
 use Rattle.dearest.proofs.put_table.Tie as tie
@@ -30,7 +30,7 @@ put-byte-requires-2 : tie.Need-put-byte-requires-2
 put-byte-requires-2 c κs =
     let counted = c.before.before.before in
     let first = counted.before.before.before.before in
-    let long = counts-long first.before.before.before.args.n in
+    let long = counts_long first.before.before.before.args.n in
     search (rules, long)
 
 cast-put-byte-3 : tie.Need-overflow-cast-put-byte-3
@@ -41,7 +41,7 @@ put-byte-requires-3 c κs =
     let low = c.before.before.before in
     let counted = low.before.before.before.before in
     let first = counted.before.before.before.before in
-    let long = counts-long first.before.before.before.args.n in
+    let long = counts_long first.before.before.before.args.n in
     search (rules, long)
 
 put-bodies-requires : tie.Need-put-bodies-requires
@@ -50,7 +50,7 @@ put-bodies-requires c κs =
     let low = high.before.before.before.before in
     let counted = low.before.before.before.before in
     let first = counted.before.before.before.before in
-    let long = counts-long first.before.before.before.args.n in
+    let long = counts_long first.before.before.before.args.n in
     search (rules, long)
 
 same_length : tie.Need-same-length
@@ -66,11 +66,11 @@ returns c =
     let start = first.before.before.before in
     let n = start.args.n in
     let l = start.requires.0 in
-    table-parts n _ l refl first.put_byte.ensures counted.put-counts.ensures low.put-byte2.ensures
+    table_parts n _ l refl first.put_byte.ensures counted.put-counts.ensures low.put-byte2.ensures
     high.put-byte3.ensures bodies.put-bodies.ensures
 
-pub put-table-spec : {M : Type 1} → statement M
-put-table-spec =
+pub put_table_spec : {M : Type 1} → statement M
+put_table_spec =
     tie.close
     (tie.spec
     sub-size

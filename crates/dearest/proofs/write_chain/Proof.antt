@@ -1,7 +1,7 @@
 -- `write_chain` meets its contract: there is a chain of 1 to 64 routines.
 use mathlib.Core.Logic.{inl, inr}
 use native.Mathlib.Omega.{arith}
-use Rattle.dearest.specs.laws.Parts.{written, not_written}
+use Rattle.dearest.specs.Laws.Parts.{written, not_written}
 use borrow.Author.Rules.{rules}
 use Rattle.dearest.proofs.write_chain.Statement.{statement}
 use Rattle.dearest.proofs.write_chain.Tie as tie
@@ -24,5 +24,5 @@ returns-3 c =
     let n = wrote.before.before.before.before.before.args.n in
     written n (omega arith) (omega arith) wrote.put-table.ensures
 
-pub write-chain-spec : {M : Type 1} → statement M
-write-chain-spec = tie.close (tie.spec returns returns-2 put-table-requires same_length returns-3)
+pub write_chain_spec : {M : Type 1} → statement M
+write_chain_spec = tie.close (tie.spec returns returns-2 put-table-requires same_length returns-3)

@@ -3,7 +3,7 @@ use mathlib.Core.Path.{◌≡◌}
 use mathlib.Core.List.{[]}
 use native.Mathlib.Omega.{arith}
 use lib.ListN.{length, get_or}
-use Rattle.grid.specs.laws.Square.{square-set}
+use Rattle.grid.specs.Laws.Square.{square_set}
 use Rattle.grid.proofs.Recorded.{added}
 use borrow.Author.Rules.{rules}
 use Rattle.grid.proofs.put_labels.Statement.{statement}
@@ -45,11 +45,11 @@ returns c =
       added a.g.now a.a a.b c.before.kept.result (omega arith) (omega arith)
           a.m (omega arith) (omega arith) s.requires.3
           c.before.kept.ensures,
-      square-set a.g.now a.a a.b _ s.requires.0 s.requires.4,
+      square_set a.g.now a.a a.b _ s.requires.0 s.requires.4,
     )
 
-pub put-labels-spec : {M : Type 1} → statement M
-put-labels-spec =
+pub put_labels_spec : {M : Type 1} → statement M
+put_labels_spec =
     tie.close
     (tie.spec
     kept-requires

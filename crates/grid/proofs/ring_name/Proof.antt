@@ -61,8 +61,8 @@ returns-2 c =
       lowest = no_lower c.before.before.args.t1 16 (rw e at c.before.loop.invariant.1);
     }
 
-pub ring-name-spec : {M : Type 1} → statement M
-ring-name-spec =
+pub ring_name_spec : {M : Type 1} → statement M
+ring_name_spec =
     tie.close
     (tie.spec
     invariant-loop

@@ -66,8 +66,8 @@ same-length-2 c = search rules
 returns-2 : tie.Need-returns-2 invariant-loop decreases-loop
 returns-2 c = search (rules, take_whole)
 
-pub read-input-spec : {M : Type 1} → statement M
-read-input-spec =
+pub read_input_spec : {M : Type 1} → statement M
+read_input_spec =
     tie.close
     (tie.spec invariant-loop decreases-loop loop-holds sub_read part-read-start part-read-end read-requires sub-count
     part-count-start part-count-end count-requires same_length returns add_done loop-less loop-again

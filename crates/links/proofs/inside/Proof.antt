@@ -1,6 +1,6 @@
 -- `inside` meets its contract, by whether the item is an END.
 use lib.ListN.{get_or}
-use Rattle.links.proofs.Leaves.{going_end, going-other}
+use Rattle.links.proofs.Leaves.{going_end, going_other}
 use borrow.Author.Rules.{rules}
 use Rattle.links.proofs.inside.Statement.{statement}
 use Rattle.links.proofs.inside.Tie as tie
@@ -16,7 +16,7 @@ returns c =
 returns-2 : tie.Need-returns-2
 returns-2 c =
     let a = c.before.before.args in
-    going-other a.w (get_or a.s.now a.w.at 0) (search rules)
+    going_other a.w (get_or a.s.now a.w.at 0) (search rules)
 
-pub inside-spec : {M : Type 1} → statement M
-inside-spec = tie.close (tie.spec shared-slice-read-if1 returns returns-2)
+pub inside_spec : {M : Type 1} → statement M
+inside_spec = tie.close (tie.spec shared-slice-read-if1 returns returns-2)

@@ -1,8 +1,8 @@
 -- `link` meets its contract: the bodies passed so far are linked, and the next is at the offset.
 use Prim.Native.Nat.{◌-◌, ◌<◌}
 use lib.ListN.{length}
-use Rattle.table.specs.laws.Sections.{few}
-use Rattle.links.specs.laws.Linking.{Linking, linking-start, own-low, can-walk, linking-turn, all-linked}
+use Rattle.table.specs.Laws.Sections.{few}
+use Rattle.links.specs.Laws.Linking.{Linking, linking_start, own_low, can_walk, linking_turn, all_linked}
 use borrow.Author.Rules.{rules}
 use native.Mathlib.Omega.{arith}
 use Rattle.links.proofs.link.Statement.{statement}
@@ -26,7 +26,7 @@ begun i = i.before.before.before
 
 loop-holds : tie.Need-loop-init invariant-loop decreases-loop
 loop-holds c =
-    linking-start _ _ _ _ c.before.before.requires.1 c.before.before.requires.2
+    linking_start _ _ _ _ c.before.before.requires.1 c.before.before.requires.2
 
 shared-slice-read-size : tie.Need-shared-slice-read-size invariant-loop decreases-loop
 shared-slice-read-size c = search rules
@@ -43,8 +43,8 @@ link-body-requires c κs =
     let l = i.loop in
     let e = o.size.ensures.0 in
     let lt : l.r < length a.ks.now = o.before.before.loop-test.true in
-    let h = own-low a.ks.now a.s.now l.heads l.links l.at l.r l.invariant lt p.0 in
-    let w = can-walk a.ks.now a.s.now l.heads l.links l.at l.r l.invariant lt p.0 in
+    let h = own_low a.ks.now a.s.now l.heads l.links l.at l.r l.invariant lt p.0 in
+    let w = can_walk a.ks.now a.s.now l.heads l.links l.at l.r l.invariant lt p.0 in
     (omega (arith, e, h), rw e w)
 
 mul-heads : tie.Need-overflow-mul-heads invariant-loop decreases-loop
@@ -60,7 +60,7 @@ element-write-heads c =
     let r = o.before.before.before in
     let i = begun r in
     let f = few i.args.ks.now i.args.s.now i.pre.0 in
-    let e = r.loop.invariant.heads-long in
+    let e = r.loop.invariant.heads_long in
     omega arith
 
 add_r : tie.Need-overflow-add-r invariant-loop decreases-loop
@@ -76,17 +76,17 @@ loop-again c =
     let a = (begun i).args in
     let l = i.loop in
     let e = o.size.ensures.0 in
-    linking-turn a.ks.now a.s.now l.heads l.links l.at l.r l.invariant (omega arith)
+    linking_turn a.ks.now a.s.now l.heads l.links l.at l.r l.invariant (omega arith)
     (begun i).requires.0 c.link-body.result c.link-body.new.1.1.0 (rw e at c.link-body.ensures)
 
 returns : tie.Need-returns invariant-loop decreases-loop
 returns c =
     let a = (begun c.before).args in
     let l = c.before.loop in
-    all-linked a.ks.now a.s.now l.heads l.links l.at l.r l.invariant (omega arith)
+    all_linked a.ks.now a.s.now l.heads l.links l.at l.r l.invariant (omega arith)
 
-pub link-spec : {M : Type 1} → statement M
-link-spec =
+pub link_spec : {M : Type 1} → statement M
+link_spec =
     tie.close
     (tie.spec
     invariant-loop

@@ -1,6 +1,6 @@
 -- `link_body` meets its contract: every path from the start goes on from each place.
-use Rattle.links.proofs.Leaves.{Walking, walking_start, walking-inside, walking-can}
-use Rattle.links.proofs.Leaves.{walking_on, walking-less, walking-over}
+use Rattle.links.proofs.Leaves.{Walking, walking_start, walking_inside, walking_can}
+use Rattle.links.proofs.Leaves.{walking_on, walking_less, walking_over}
 use Prim.Native.Nat.{◌-◌}
 use lib.ListN.{length}
 use Rattle.links.specs.Walks.{begun}
@@ -40,7 +40,7 @@ inside-requires : tie.Need-inside-requires invariant-loop decreases-loop
 inside-requires c κs =
     let a = (started c).args in
     let l = c.loop in
-    walking-inside a.ks.now a.s.now (begun a.from a.own) l.w a.links.now l.links l.invariant
+    walking_inside a.ks.now a.s.now (begun a.from a.own) l.w a.links.now l.links l.invariant
 
 link-item-requires : tie.Need-link-item-requires invariant-loop decreases-loop
 link-item-requires c κs =
@@ -48,7 +48,7 @@ link-item-requires c κs =
     let i = c.before.before.before in
     let a = (started i).args in
     let l = i.loop in
-    walking-can a.ks.now a.s.now (begun a.from a.own) l.w a.links.now l.links l.invariant
+    walking_can a.ks.now a.s.now (begun a.from a.own) l.w a.links.now l.links l.invariant
     inside.result inside.ensures c.before.if1.true
 
 loop-less : tie.Need-loop-smaller invariant-loop decreases-loop
@@ -57,7 +57,7 @@ loop-less c =
     let i = going.before.before in
     let a = (started i).args in
     let l = i.loop in
-    walking-less a.ks.now a.s.now (begun a.from a.own) l.w a.links.now l.links l.invariant
+    walking_less a.ks.now a.s.now (begun a.from a.own) l.w a.links.now l.links l.invariant
     c.link-item.result c.link-item.ensures.1
 
 loop-again : tie.Need-loop-preserved invariant-loop decreases-loop
@@ -77,7 +77,7 @@ add-result c =
     let a = (started i).args in
     let l = i.loop in
     let h =
-    walking-inside a.ks.now a.s.now (begun a.from a.own) l.w a.links.now l.links l.invariant in
+    walking_inside a.ks.now a.s.now (begun a.from a.own) l.w a.links.now l.links l.invariant in
     search rules
 
 returns : tie.Need-returns invariant-loop decreases-loop
@@ -86,11 +86,11 @@ returns c =
     let i = c.before.before.before in
     let a = (started i).args in
     let l = i.loop in
-    walking-over a.ks.now a.s.now (begun a.from a.own) l.w a.links.now l.links l.invariant
+    walking_over a.ks.now a.s.now (begun a.from a.own) l.w a.links.now l.links l.invariant
     inside.result inside.ensures c.before.if1.false
 
-pub link-body-spec : {M : Type 1} → statement M
-link-body-spec =
+pub link_body_spec : {M : Type 1} → statement M
+link_body_spec =
     tie.close
     (tie.spec
     invariant-loop

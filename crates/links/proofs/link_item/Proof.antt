@@ -1,5 +1,5 @@
 -- `link_item` meets its contract: one link is written, and the place moves on.
-use Rattle.links.proofs.Leaves.{item-links, item-moved}
+use Rattle.links.proofs.Leaves.{item_links, item_moved}
 use borrow.Author.Rules.{rules}
 use Rattle.links.proofs.link_item.Statement.{statement}
 use Rattle.links.proofs.link_item.Tie as tie
@@ -31,14 +31,14 @@ returns c =
     let p = o.before in
     let code = p.before in
     let a = code.before.before.before.args in (
-      item-links a.ks.now a.s.now a.w a.links.now o.slot.result c.before.link-of.result
+      item_links a.ks.now a.s.now a.w a.links.now o.slot.result c.before.link-of.result
           p.past.result p.past.ensures o.slot.ensures c.before.link-of.ensures,
-      item-moved a.ks.now a.s.now a.w c.moved.result p.past.result p.past.ensures
+      item_moved a.ks.now a.s.now a.w c.moved.result p.past.result p.past.ensures
           c.moved.ensures,
     )
 
-pub link-item-spec : {M : Type 1} → statement M
-link-item-spec =
+pub link_item_spec : {M : Type 1} → statement M
+link_item_spec =
     tie.close
     (tie.spec
     shared-slice-read-b

@@ -1,6 +1,6 @@
 -- `moved` meets its contract, by the code of the item: each case is a law of its own.
 use mathlib.Core.Path.{sym, ◌∙◌}
-use Rattle.links.proofs.Leaves.{moved-end, moved-name, moved_other, moved_call, moved_open}
+use Rattle.links.proofs.Leaves.{moved_end, moved_name, moved_other, moved_call, moved_open}
 use borrow.Author.Rules.{rules}
 use Rattle.links.proofs.moved.Statement.{statement}
 use Rattle.links.proofs.moved.Tie as tie
@@ -19,7 +19,7 @@ sub-v : tie.Need-overflow-sub-v
 sub-v c = let h = c.before.requires.closes (search rules) in search rules
 
 returns : tie.Need-returns
-returns c = let a = c.before.args in moved-end a.w a.b a.next (search rules)
+returns c = let a = c.before.args in moved_end a.w a.b a.next (search rules)
 
 binds-requires : tie.Need-binds-requires
 binds-requires c κs = search rules
@@ -31,7 +31,7 @@ returns-2 : tie.Need-returns-2
 returns-2 c =
     let f = c.before.before in
     let a = f.before.before.args in
-    moved-name a.w a.b a.next f.binds.result (search rules) f.binds.ensures c.before.if2.true
+    moved_name a.w a.b a.next f.binds.result (search rules) f.binds.ensures c.before.if2.true
 
 mul-v : tie.Need-overflow-mul-v
 mul-v c = search rules
@@ -69,8 +69,8 @@ returns-5 c =
     moved_open a.w a.b a.next f.result (search rules) f.ensures i.if2.false (search rules)
     (search rules)
 
-pub moved-spec : {M : Type 1} → statement M
-moved-spec =
+pub moved_spec : {M : Type 1} → statement M
+moved_spec =
     tie.close
     (tie.spec
     sub-v

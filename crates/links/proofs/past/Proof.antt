@@ -2,7 +2,7 @@
 use mathlib.Core.Path.{◌∙◌, ap}
 use Prim.Native.Nat.{ℕ}
 use lib.ListN.{get_or}
-use Rattle.links.proofs.Leaves.{past-lock, past-mirror, past-call, past-other}
+use Rattle.links.proofs.Leaves.{past_lock, past_mirror, past_call, past_other}
 use borrow.Author.Rules.{rules}
 use Rattle.links.proofs.past.Statement.{statement}
 use Rattle.links.proofs.past.Tie as tie
@@ -33,7 +33,7 @@ add-result c = search rules
 returns : tie.Need-returns
 returns c =
     let a = (begun c.before).args in
-    past-lock a.ks.now a.s.now a.at (get_or a.s.now a.at 0) (search rules)
+    past_lock a.ks.now a.s.now a.at (get_or a.s.now a.at 0) (search rules)
 
 shared-slice-read-if2 : tie.Need-shared-slice-read-if2
 shared-slice-read-if2 c = search rules
@@ -44,7 +44,7 @@ add-result-2 c = search rules
 returns-2 : tie.Need-returns-2
 returns-2 c =
     let a = (begun c.before.before.before).args in
-    past-mirror a.ks.now a.s.now a.at (get_or a.s.now a.at 0) (search rules)
+    past_mirror a.ks.now a.s.now a.at (get_or a.s.now a.at 0) (search rules)
 
 shared-slice-read-if3 : tie.Need-shared-slice-read-if3
 shared-slice-read-if3 c = search rules
@@ -78,7 +78,7 @@ returns-3 : tie.Need-returns-3
 returns-3 c =
     let r = c.before.before in
     let a = (begun (code_at r.before.before.before)).args in
-    past-call a.ks.now a.s.now a.at (get_or a.s.now a.at 0) c.size2.result (search rules)
+    past_call a.ks.now a.s.now a.at (get_or a.s.now a.at 0) c.size2.result (search rules)
     (c.size2.ensures.0 ∙ ap (λ (v : ℕ). get_or a.ks.now v 0) r.size.ensures.0)
 
 add-result-5 : tie.Need-overflow-add-result-5
@@ -87,11 +87,11 @@ add-result-5 c = search rules
 returns-4 : tie.Need-returns-4
 returns-4 c =
     let a = (begun (code_at c.before)).args in
-    past-other a.ks.now a.s.now a.at (get_or a.s.now a.at 0) (search rules) (search rules)
+    past_other a.ks.now a.s.now a.at (get_or a.s.now a.at 0) (search rules) (search rules)
     (search rules)
 
-pub past-spec : {M : Type 1} → statement M
-past-spec =
+pub past_spec : {M : Type 1} → statement M
+past_spec =
     tie.close
     (tie.spec
     shared-slice-read-if1

@@ -1,5 +1,5 @@
 -- `slot` meets its contract, by whether the item is an END, an OTHER or neither.
-use Rattle.links.proofs.Leaves.{slot-end, slot-other, slot-own}
+use Rattle.links.proofs.Leaves.{slot_end, slot_other, slot_own}
 use borrow.Author.Rules.{rules}
 use Rattle.links.proofs.slot.Statement.{statement}
 use Rattle.links.proofs.slot.Tie as tie
@@ -13,7 +13,7 @@ element-copy-out-result c = search rules
 returns : tie.Need-returns
 returns c =
     let a = c.before.before.args in
-    slot-end a.t2 a.b (search rules)
+    slot_end a.t2 a.b (search rules)
 
 mul-result-2 : tie.Need-overflow-mul-result-2
 mul-result-2 c = search rules
@@ -24,15 +24,15 @@ element-copy-out-result-2 c = search rules
 returns-2 : tie.Need-returns-2
 returns-2 c =
     let a = c.before.before.before.args in
-    slot-other a.t2 a.b (search rules) (search rules)
+    slot_other a.t2 a.b (search rules) (search rules)
 
 returns-3 : tie.Need-returns-3
 returns-3 c =
     let a = c.before.before.args in
-    slot-own a.t2 a.b (search rules) (search rules)
+    slot_own a.t2 a.b (search rules) (search rules)
 
-pub slot-spec : {M : Type 1} → statement M
-slot-spec =
+pub slot_spec : {M : Type 1} → statement M
+slot_spec =
     tie.close
     (tie.spec
     mul-result

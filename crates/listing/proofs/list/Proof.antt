@@ -2,7 +2,7 @@
 use native.Mathlib.Omega.{arith}
 use mathlib.Core.Path.{refl, subst}
 use Rattle.analysis.specs.Answer.{Fits}
-use Rattle.listing.proofs.ListLaws.{judged-few, judged-small, listed}
+use Rattle.listing.proofs.ListLaws.{judged_few, judged_small, listed}
 use borrow.Author.Rules.{rules}
 use Rattle.listing.proofs.list.Statement.{statement}
 use Rattle.listing.proofs.list.Tie as tie
@@ -23,8 +23,8 @@ list-judged-requires c κs =
     let start = analysed.before.before.before.before in
     let h = analysed.analyse.ensures in
     let e = judged.verdict.given.1 in
-    let few = judged-few _ _ _ _ h.0 _ _ _ (λ i. omega (arith, start.shared-slice-known.given i)) e in
-    let small = judged-small _ _ _ _ h.0 _ _ _ (λ i. omega (arith, start.shared-slice-known.given i)) e in
+    let few = judged_few _ _ _ _ h.0 _ _ _ (λ i. omega (arith, start.shared-slice-known.given i)) e in
+    let small = judged_small _ _ _ _ h.0 _ _ _ (λ i. omega (arith, start.shared-slice-known.given i)) e in
     (omega (arith, few, c.before.routines.ensures.0), (subst Fits e h.1).0, small)
 
 enum-known-e : tie.Need-enum-known-e
@@ -66,8 +66,8 @@ returns-2 c =
     let h = refused.before.before.before.before.analyse.ensures.0 in
     (listed _ _ _ _ h _ _ refl refused.e.given.1 f.0, omega (arith, f.1))
 
-pub list-spec : {M : Type 1} → statement M
-list-spec =
+pub list_spec : {M : Type 1} → statement M
+list_spec =
     tie.close
     (tie.spec
     analyse-requires

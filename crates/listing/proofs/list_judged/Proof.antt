@@ -1,6 +1,6 @@
 -- `list_judged` meets its contract: the first line, the pairs, the share and the verdict, one after the other.
 use native.Mathlib.Omega.{arith}
-use Rattle.append.specs.laws.Appending.{then}
+use Rattle.append.specs.Laws.Appending.{then}
 use borrow.Author.Rules.{rules}
 use Rattle.listing.proofs.list_judged.Statement.{statement}
 use Rattle.listing.proofs.list_judged.Tie as tie
@@ -46,8 +46,8 @@ returns c =
     let h = verdict.put-verdict.ensures in
     (then (then (then f.0 g.0) s.0) h.0, omega (arith, f.1, g.1, s.1, h.1))
 
-pub list-judged-spec : {M : Type 1} → statement M
-list-judged-spec =
+pub list_judged_spec : {M : Type 1} → statement M
+list_judged_spec =
     tie.close
     (tie.spec
     slice-aggregate-put-line

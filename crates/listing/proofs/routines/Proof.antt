@@ -19,5 +19,5 @@ returns c =
 returns-2 : tie.Need-returns-2
 returns-2 c = search rules
 
-pub routines-spec : {M : Type 1} → statement M
-routines-spec = tie.close (tie.spec shared-slice-read-size size-requires returns returns-2)
+pub routines_spec : {M : Type 1} → statement M
+routines_spec = tie.close (tie.spec shared-slice-read-size size-requires returns returns-2)

@@ -2,10 +2,10 @@
 use mathlib.Core.Path.{refl}
 use Prim.Native.Nat.{◌-◌}
 use native.Mathlib.Omega.{arith}
-use Rattle.table.specs.Constants.{most-routines}
+use Rattle.table.specs.Constants.{most_routines}
 use Rattle.order.specs.Ordering.{order_of}
-use Rattle.order.proofs.DiscoverLaws.{Finding, none-listed, finding-start, start-there, can-meet, finding-on}
-use Rattle.order.proofs.DiscoverLaws.{finding-end}
+use Rattle.order.proofs.DiscoverLaws.{Finding, none_listed, finding_start, start_there, can_meet, finding_on}
+use Rattle.order.proofs.DiscoverLaws.{finding_end}
 use borrow.Author.Rules.{rules}
 use Rattle.order.proofs.discover.Statement.{statement}
 use Rattle.order.proofs.discover.Tie as tie
@@ -15,17 +15,17 @@ invariant-loop ks s starts routines₀ places₀ first f₀ i₀ routines places
     Finding ks s starts (order_of routines places f.count f.bytes) i
 
 abbrev decreases-loop : tie.decreases-loop
-decreases-loop ks s starts routines₀ places₀ first f₀ i₀ routines places f i = most-routines - i
+decreases-loop ks s starts routines₀ places₀ first f₀ i₀ routines places f i = most_routines - i
 
 meet-requires : tie.Need-meet-requires invariant-loop decreases-loop
 meet-requires c κs =
-    (none-listed _ refl refl refl, omega arith)
+    (none_listed _ refl refl refl, omega arith)
 
 loop-holds : tie.Need-loop-init invariant-loop decreases-loop
 loop-holds c =
     let start = c.before.before.before.before.before.before in
     let a = start.args in
-    finding-start a.ks.now a.s.now a.starts.now _ _ refl refl (c.meet.ensures 0)
+    finding_start a.ks.now a.s.now a.starts.now _ _ refl refl (c.meet.ensures 0)
 
 array-read-size : tie.Need-array-read-size invariant-loop decreases-loop
 array-read-size c =
@@ -52,7 +52,7 @@ shared-slice-read-meet-all c =
     let start = turn.before.before.before.before.before.before.before in
     let a = start.args in
     let o = order_of l.routines l.places l.f.count l.f.bytes in
-    let t = start-there a.ks.now a.s.now a.starts.now o l.i l.invariant (omega arith) start.requires in
+    let t = start_there a.ks.now a.s.now a.starts.now o l.i l.invariant (omega arith) start.requires in
     search rules
 
 end-of-requires : tie.Need-end-of-requires invariant-loop decreases-loop
@@ -63,7 +63,7 @@ end-of-requires c κs =
     let start = turn.before.before.before.before.before.before.before in
     let a = start.args in
     let o = order_of l.routines l.places l.f.count l.f.bytes in
-    let t = start-there a.ks.now a.s.now a.starts.now o l.i l.invariant (omega arith) start.requires in
+    let t = start_there a.ks.now a.s.now a.starts.now o l.i l.invariant (omega arith) start.requires in
     omega arith
 
 meet-all-requires : tie.Need-meet-all-requires invariant-loop decreases-loop
@@ -77,7 +77,7 @@ meet-all-requires c κs =
     let start = turn.before.before.before.before.before.before.before in
     let a = start.args in
     let o = order_of l.routines l.places l.f.count l.f.bytes in
-    can-meet a.ks.now a.s.now a.starts.now o l.i l.invariant (omega arith) _ _ _ routine.ensures.0
+    can_meet a.ks.now a.s.now a.starts.now o l.i l.invariant (omega arith) _ _ _ routine.ensures.0
     refl ended.ensures start.requires
 
 add-i : tie.Need-overflow-add-i invariant-loop decreases-loop
@@ -109,7 +109,7 @@ loop-again c =
     let start = turn.before.before.before.before.before.before.before in
     let a = start.args in
     let o = order_of l.routines l.places l.f.count l.f.bytes in
-    finding-on a.ks.now a.s.now a.starts.now o l.i l.invariant (omega arith) _ _ _ _ routine.ensures.0
+    finding_on a.ks.now a.s.now a.starts.now o l.i l.invariant (omega arith) _ _ _ _ routine.ensures.0
     refl ended.ensures c.meet_all.ensures start.requires
 
 returns : tie.Need-returns invariant-loop decreases-loop
@@ -119,10 +119,10 @@ returns c =
     let start = turn.before.before.before.before.before.before.before in
     let a = start.args in
     let o = order_of l.routines l.places l.f.count l.f.bytes in
-    finding-end a.ks.now a.s.now a.starts.now o l.i l.invariant (omega arith)
+    finding_end a.ks.now a.s.now a.starts.now o l.i l.invariant (omega arith)
 
-pub discover-spec : {M : Type 1} → statement M
-discover-spec =
+pub discover_spec : {M : Type 1} → statement M
+discover_spec =
     tie.close
     (tie.spec
     invariant-loop

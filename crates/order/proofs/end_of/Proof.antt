@@ -32,6 +32,6 @@ returns-2 c =
     let a = b.args in
     rw (le-ltb (a.r + 1) (length a.starts.now) (omega arith)) refl
 
-pub end-of-spec : {M : Type 1} → statement M
-end-of-spec =
+pub end_of_spec : {M : Type 1} → statement M
+end_of_spec =
     tie.close (tie.spec add-if1 add-result mul-result shared-slice-read-result returns returns-2)

@@ -11,5 +11,5 @@ returns c = rw (eq-eqb c.before.args.b (code MIRROR) c.if1.true) refl
 returns-2 : tie.Need-returns-2
 returns-2 c = rw (ne_eqb c.before.args.b (code MIRROR) c.if1.false) refl
 
-pub kept-bytes-spec : {M : Type 1} → statement M
-kept-bytes-spec = tie.close (tie.spec returns returns-2)
+pub kept_bytes_spec : {M : Type 1} → statement M
+kept_bytes_spec = tie.close (tie.spec returns returns-2)

@@ -2,9 +2,9 @@
 use mathlib.Core.Path.{◌≡◌}
 use mathlib.Core.Logic.{◌≢◌}
 use lib.ListN.{get_or}
-use Rattle.table.specs.Constants.{most-routines}
+use Rattle.table.specs.Constants.{most_routines}
 use Rattle.order.specs.Ordering.{order_of}
-use Rattle.order.proofs.OrderLaws.{meets-old, meets-new, place-room}
+use Rattle.order.proofs.OrderLaws.{meets_old, meets_new, place_room}
 use borrow.Author.Rules.{rules}
 use Rattle.order.proofs.meet.Statement.{statement}
 use Rattle.order.proofs.meet.Tie as tie
@@ -20,18 +20,18 @@ returns c =
     let start = c.before.before.before in
     let a = start.args in
     let z = c.before.before.size in
-    let n : get_or a.places.now z.result 0 ≢ most-routines = c.if1.true in
+    let n : get_or a.places.now z.result 0 ≢ most_routines = c.if1.true in
     let e = rw z.ensures.0 at n in
-    meets-old a.routines.now a.places.now a.count a.r start.requires.0 start.requires.1 e
+    meets_old a.routines.now a.places.now a.count a.r start.requires.0 start.requires.1 e
 
 element-write-routines : tie.Need-element-write-routines
 element-write-routines c =
     let start = c.before.before.before in
     let a = start.args in
     let z = c.before.before.size in
-    let n : get_or a.places.now z.result 0 ≡ most-routines = c.if1.false in
+    let n : get_or a.places.now z.result 0 ≡ most_routines = c.if1.false in
     let e = rw z.ensures.0 at n in
-    let l = place-room (order_of a.routines.now a.places.now a.count 0) a.r start.requires.0
+    let l = place_room (order_of a.routines.now a.places.now a.count 0) a.r start.requires.0
     start.requires.1 e in
     search rules
 
@@ -49,13 +49,13 @@ returns-2 c =
     let start = c.before.before.before in
     let a = start.args in
     let z = c.before.before.size in
-    let n : get_or a.places.now z.result 0 ≡ most-routines = c.if1.false in
+    let n : get_or a.places.now z.result 0 ≡ most_routines = c.if1.false in
     let e = rw z.ensures.0 at n in
     rw z.ensures.0
-    (meets-new a.routines.now a.places.now a.count a.r start.requires.0 start.requires.1 e)
+    (meets_new a.routines.now a.places.now a.count a.r start.requires.0 start.requires.1 e)
 
-pub meet-spec : {M : Type 1} → statement M
-meet-spec =
+pub meet_spec : {M : Type 1} → statement M
+meet_spec =
     tie.close
     (tie.spec
     size-requires

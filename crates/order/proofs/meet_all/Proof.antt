@@ -4,10 +4,10 @@ use mathlib.Core.Logic.{⊎_elim}
 use Prim.Native.Nat.{◌-◌}
 use native.Mathlib.Omega.{arith}
 use Rattle.order.specs.Ordering.{order_of}
-use Rattle.order.specs.laws.Standing.{passable}
-use Rattle.order.proofs.OrderLaws.{listed-bytes}
-use Rattle.order.proofs.MeetLaws.{Meeting, meeting-start, meeting-end, any-item, item-here, routine-here}
-use Rattle.order.proofs.MeetLaws.{meeting-on, meeting-less, counts-fit, Stepped, stepped-call, stepped-other}
+use Rattle.order.specs.Laws.Standing.{passable}
+use Rattle.order.proofs.OrderLaws.{listed_bytes}
+use Rattle.order.proofs.MeetLaws.{Meeting, meeting_start, meeting_end, any_item, item_here, routine_here}
+use Rattle.order.proofs.MeetLaws.{meeting_on, meeting_less, counts_fit, Stepped, stepped_call, stepped_other}
 use borrow.Author.Rules.{rules}
 use Rattle.order.proofs.meet_all.Statement.{statement}
 use Rattle.order.proofs.meet_all.Tie as tie
@@ -24,7 +24,7 @@ loop-holds c =
     let start = c.before.before in
     let a = start.args in
     let o = order_of a.routines.now a.places.now a.f.count a.f.bytes in
-    meeting-start a.ks.now a.s.now a.at a.end o start.requires.listed
+    meeting_start a.ks.now a.s.now a.at a.end o start.requires.listed
 
 shared-slice-read-if1 : tie.Need-shared-slice-read-if1 invariant-loop decreases-loop
 shared-slice-read-if1 c =
@@ -34,7 +34,7 @@ shared-slice-read-if1 c =
     let a = start.args in
     let o = order_of a.routines.now a.places.now a.f.count a.f.bytes in
     let v = order_of l.routines l.places l.count l.bytes in
-    let h = item-here a.ks.now a.s.now a.at a.end o l.i v l.invariant (omega arith) start.requires in
+    let h = item_here a.ks.now a.s.now a.at a.end o l.i v l.invariant (omega arith) start.requires in
     search rules
 
 add-meet : tie.Need-overflow-add-meet invariant-loop decreases-loop
@@ -48,7 +48,7 @@ shared-slice-read-meet c =
     let a = start.args in
     let o = order_of a.routines.now a.places.now a.f.count a.f.bytes in
     let v = order_of l.routines l.places l.count l.bytes in
-    let h = routine-here a.ks.now a.s.now a.at a.end o l.i v l.invariant (omega arith) start.requires
+    let h = routine_here a.ks.now a.s.now a.at a.end o l.i v l.invariant (omega arith) start.requires
     (search rules) in
     search rules
 
@@ -60,9 +60,9 @@ meet-requires c κs =
     let a = start.args in
     let o = order_of a.routines.now a.places.now a.f.count a.f.bytes in
     let v = order_of l.routines l.places l.count l.bytes in
-    let h = routine-here a.ks.now a.s.now a.at a.end o l.i v l.invariant (omega arith) start.requires
+    let h = routine_here a.ks.now a.s.now a.at a.end o l.i v l.invariant (omega arith) start.requires
     (search rules) in
-    (listed-bytes v 0 l.invariant.listed, h.1)
+    (listed_bytes v 0 l.invariant.listed, h.1)
 
 past-requires : tie.Need-past-requires invariant-loop decreases-loop
 past-requires c κs =
@@ -73,7 +73,7 @@ past-requires c κs =
     let o = order_of a.routines.now a.places.now a.f.count a.f.bytes in
     let v = order_of l.routines l.places l.count l.bytes in
     passable a.ks.now a.s.now l.i
-    (any-item a.ks.now a.s.now a.at a.end o l.i v l.invariant (omega arith) start.requires)
+    (any_item a.ks.now a.s.now a.at a.end o l.i v l.invariant (omega arith) start.requires)
 
 shared-slice-read-kept-bytes : tie.Need-shared-slice-read-kept-bytes invariant-loop decreases-loop
 shared-slice-read-kept-bytes c =
@@ -83,7 +83,7 @@ shared-slice-read-kept-bytes c =
     let a = start.args in
     let o = order_of a.routines.now a.places.now a.f.count a.f.bytes in
     let v = order_of l.routines l.places l.count l.bytes in
-    let h = item-here a.ks.now a.s.now a.at a.end o l.i v l.invariant (omega arith) start.requires in
+    let h = item_here a.ks.now a.s.now a.at a.end o l.i v l.invariant (omega arith) start.requires in
     search rules
 
 sub-kept-bytes : tie.Need-overflow-sub-kept-bytes invariant-loop decreases-loop
@@ -95,7 +95,7 @@ sub-kept-bytes c =
     let a = start.args in
     let o = order_of a.routines.now a.places.now a.f.count a.f.bytes in
     let v = order_of l.routines l.places l.count l.bytes in
-    let h = meeting-less a.ks.now a.s.now a.at a.end o l.i v l.invariant (omega arith) start.requires _
+    let h = meeting_less a.ks.now a.s.now a.at a.end o l.i v l.invariant (omega arith) start.requires _
     passed.ensures in
     search rules
 
@@ -118,10 +118,10 @@ add-bytes c =
     let w = order_of met.routines met.places met.count l.bytes in
     let stepped : Stepped a.ks.now a.s.now l.i v w = ⊎_elim
     (λ q. rw (q.5, q.6, q.7)
-    (stepped-call a.ks.now a.s.now l.i v _ (search rules) (q.4.ensures l.bytes)))
-    (λ q. rw (q.1, q.2, q.3) (stepped-other a.ks.now a.s.now l.i v (search rules) l.invariant.listed))
+    (stepped_call a.ks.now a.s.now l.i v _ (search rules) (q.4.ensures l.bytes)))
+    (λ q. rw (q.1, q.2, q.3) (stepped_other a.ks.now a.s.now l.i v (search rules) l.invariant.listed))
     met.branch in
-    let h = counts-fit a.ks.now a.s.now a.at a.end o l.i v l.invariant (omega arith) start.requires _
+    let h = counts_fit a.ks.now a.s.now a.at a.end o l.i v l.invariant (omega arith) start.requires _
     passed.ensures w stepped in
     search rules
 
@@ -135,7 +135,7 @@ loop-less c =
     let a = start.args in
     let o = order_of a.routines.now a.places.now a.f.count a.f.bytes in
     let v = order_of l.routines l.places l.count l.bytes in
-    let h = meeting-less a.ks.now a.s.now a.at a.end o l.i v l.invariant (omega arith) start.requires _
+    let h = meeting_less a.ks.now a.s.now a.at a.end o l.i v l.invariant (omega arith) start.requires _
     passed.ensures in
     omega arith
 
@@ -154,11 +154,11 @@ loop-again c =
     let w = order_of met.routines met.places met.count l.bytes in
     let stepped : Stepped a.ks.now a.s.now l.i v w = ⊎_elim
     (λ q. rw (q.5, q.6, q.7)
-    (stepped-call a.ks.now a.s.now l.i v _ (search rules) (q.4.ensures l.bytes)))
-    (λ q. rw (q.1, q.2, q.3) (stepped-other a.ks.now a.s.now l.i v (search rules) l.invariant.listed))
+    (stepped_call a.ks.now a.s.now l.i v _ (search rules) (q.4.ensures l.bytes)))
+    (λ q. rw (q.1, q.2, q.3) (stepped_other a.ks.now a.s.now l.i v (search rules) l.invariant.listed))
     met.branch in
     rw c.kept-bytes.ensures
-    (meeting-on a.ks.now a.s.now a.at a.end o l.i v l.invariant (omega arith) start.requires _
+    (meeting_on a.ks.now a.s.now a.at a.end o l.i v l.invariant (omega arith) start.requires _
     passed.ensures w stepped)
 
 returns : tie.Need-returns invariant-loop decreases-loop
@@ -169,10 +169,10 @@ returns c =
     let a = start.args in
     let o = order_of a.routines.now a.places.now a.f.count a.f.bytes in
     let v = order_of l.routines l.places l.count l.bytes in
-    meeting-end a.ks.now a.s.now a.at a.end o l.i v l.invariant (omega arith)
+    meeting_end a.ks.now a.s.now a.at a.end o l.i v l.invariant (omega arith)
 
-pub meet-all-spec : {M : Type 1} → statement M
-meet-all-spec =
+pub meet_all_spec : {M : Type 1} → statement M
+meet_all_spec =
     tie.close
     (tie.spec
     invariant-loop

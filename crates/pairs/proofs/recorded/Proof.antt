@@ -6,13 +6,13 @@ use native.Mathlib.Omega.{arith}
 use lib.ListN.{length}
 use borrow.Author.Rules.{rules}
 use Rattle.grid.specs.Grid.{Square}
-use Rattle.grid.specs.laws.Square.{square-of}
-use Rattle.table.specs.laws.Fine.{IsBody}
+use Rattle.grid.specs.Laws.Square.{square_of}
+use Rattle.table.specs.Laws.Fine.{IsBody}
 use Rattle.pairs.specs.Walks.{Walk, walk_of}
-use Rattle.pairs.proofs.Recording.{Recording, record-start, record-there, record-entries, record-ready}
-use Rattle.pairs.proofs.Recording.{record-lock-ready, record-thread, record-call-ready, record-lock}
-use Rattle.pairs.proofs.Recording.{record-call, record-other}
-use Rattle.pairs.proofs.Recording.{record-less, record-closed, record-end}
+use Rattle.pairs.proofs.Recording.{Recording, record_start, record_there, record_entries, record_ready}
+use Rattle.pairs.proofs.Recording.{record_lock_ready, record_thread, record_call_ready, record_lock}
+use Rattle.pairs.proofs.Recording.{record_call, record_other}
+use Rattle.pairs.proofs.Recording.{record_less, record_closed, record_end}
 use Rattle.pairs.proofs.walk.selves.Reads as selves-reads
 use Rattle.pairs.proofs.walk.holder_inside.Reads as holder-inside-reads
 use Rattle.pairs.proofs.calls.locked.Reads as locked-reads
@@ -55,64 +55,64 @@ loop-holds c =
     let b = c.before.before.before.before in
     let a = b.args in
     let f = a.t1 in (
-      record-start a.ks.now a.k a.s.now a.at a.rows.now f c.selves.result b.requires.2
+      record_start a.ks.now a.k a.s.now a.at a.rows.now f c.selves.result b.requires.2
           c.selves.ensures,
-      square-of f _ b.well-formed.0.1.0.1 b.well-formed.0.1.1,
+      square_of f _ b.well_formed.0.1.0.1 b.well_formed.0.1.1,
     )
 
 selves-requires : tie.Need-selves-requires invariant-loop decreases-loop
 selves-requires c κs = search rules
 
 shared-slice-read-b : tie.Need-shared-slice-read-b invariant-loop decreases-loop
-shared-slice-read-b c = record-there c.before.loop.invariant.0 (is_body c)
+shared-slice-read-b c = record_there c.before.loop.invariant.0 (is_body c)
 
 returns : tie.Need-returns invariant-loop decreases-loop
 returns c =
-    let i = c.before.before in record-end i.before.loop.invariant.0 (is_body i) (search rules) (search rules)
+    let i = c.before.before in record_end i.before.loop.invariant.0 (is_body i) (search rules) (search rules)
 
 add-p : tie.Need-overflow-add-p invariant-loop decreases-loop
 add-p c =
-    let i = c.before.before in let z = record-there i.before.loop.invariant.0 (is_body i) in search rules
+    let i = c.before.before in let z = record_there i.before.loop.invariant.0 (is_body i) in search rules
 
 sub-p : tie.Need-overflow-sub-p invariant-loop decreases-loop
 sub-p c = search rules
 
 loop-less : tie.Need-loop-smaller invariant-loop decreases-loop
 loop-less c =
-    let i = c.before.before in let z = record-there i.before.loop.invariant.0 (is_body i) in omega arith
+    let i = c.before.before in let z = record_there i.before.loop.invariant.0 (is_body i) in omega arith
 
 loop-again : tie.Need-loop-preserved invariant-loop decreases-loop
 loop-again c =
     let i = c.before.before in
     let l = i.before.loop in
-    (record-closed l.invariant.0 (is_body i) (search rules) (omega arith), l.invariant.1)
+    (record_closed l.invariant.0 (is_body i) (search rules) (omega arith), l.invariant.1)
 
 array-read-h : tie.Need-array-read-h invariant-loop decreases-loop
 array-read-h c =
-    let i = c.before in let z = record-entries i.before.loop.invariant.0 (is_body i) in search rules
+    let i = c.before in let z = record_entries i.before.loop.invariant.0 (is_body i) in search rules
 
 array-read-t : tie.Need-array-read-t invariant-loop decreases-loop
 array-read-t c =
-    let i = c.before in let z = record-entries i.before.loop.invariant.0 (is_body i) in search rules
+    let i = c.before in let z = record_entries i.before.loop.invariant.0 (is_body i) in search rules
 
 mul-m : tie.Need-overflow-mul-m invariant-loop decreases-loop
 mul-m c =
-    let i = c.before in let z = record-entries i.before.loop.invariant.0 (is_body i) in search rules
+    let i = c.before in let z = record_entries i.before.loop.invariant.0 (is_body i) in search rules
 
 array-read-m : tie.Need-array-read-m invariant-loop decreases-loop
 array-read-m c =
-    let i = c.before in let z = record-entries i.before.loop.invariant.0 (is_body i) in search rules
+    let i = c.before in let z = record_entries i.before.loop.invariant.0 (is_body i) in search rules
 
 holder-inside-requires : tie.Need-holder-inside-requires invariant-loop decreases-loop
 holder-inside-requires c κs =
-    let i = c.before.before in record-lock-ready i.before.loop.invariant.0 (is_body i)
+    let i = c.before.before in record_lock_ready i.before.loop.invariant.0 (is_body i)
 
 locked-requires : tie.Need-locked-requires invariant-loop decreases-loop
 locked-requires c κs =
     let inside = c.before.before in
     let i = inside.before.before.before in
     let l = i.before.loop in
-    (record-thread l.invariant.0 (is_body i), l.invariant.0.small, l.invariant.1)
+    (record_thread l.invariant.0 (is_body i), l.invariant.0.small, l.invariant.1)
 
 called-requires : tie.Need-called-requires invariant-loop decreases-loop
 called-requires c κs =
@@ -120,14 +120,14 @@ called-requires c κs =
     let i = inside.before.before.before in
     let b = i.before.before.before.before.before.before in
     let l = i.before.loop in
-    (record-call-ready l.invariant.0 (is_body i) (search rules) b.requires.1, l.invariant.0.small, l.invariant.1)
+    (record_call_ready l.invariant.0 (is_body i) (search rules) b.requires.1, l.invariant.0.small, l.invariant.1)
 
 step-requires : tie.Need-step-requires invariant-loop decreases-loop
 step-requires c κs =
     let inside = c.before.before.before.before.before in
     let going = inside.before.before in
     let i = going.before in (
-      record-ready i.before.loop.invariant.0 (is_body i) (λ e. absurd (going.if1.false e)),
+      record_ready i.before.loop.invariant.0 (is_body i) (λ e. absurd (going.if1.false e)),
       record { holder = inside.holder-inside.ensures; thread = refl; nest = refl },
     )
 
@@ -135,7 +135,7 @@ loop-less-2 : tie.Need-loop-smaller-2 invariant-loop decreases-loop
 loop-less-2 c =
     let going = c.before.before.before.before.before.before.before.before in
     let i = going.before in
-    let z = record-less i.before.loop.invariant.0 (is_body i) (λ e. absurd (going.if1.false e)) in
+    let z = record_less i.before.loop.invariant.0 (is_body i) (λ e. absurd (going.if1.false e)) in
     let e = ap (λ (v : Walk). v.at) c.step.ensures in
     omega arith
 
@@ -148,23 +148,23 @@ loop-again-2 c =
     let l = i.before.loop in
     rw c.step.ensures (⊎_elim
     (λ q. rw q.3 (
-      record-lock l.invariant.0 (is_body i) _ (λ e. absurd (going.if1.false e)) (search rules)
+      record_lock l.invariant.0 (is_body i) _ (λ e. absurd (going.if1.false e)) (search rules)
           inside.holder-inside.ensures q.2.ensures.0,
       q.2.ensures.1,
     ))
     (⊎_elim
     (λ q. rw q.5 (
-      record-call l.invariant.0 (is_body i) _ (λ e. absurd (going.if1.false e)) (search rules) q.4.ensures.0,
+      record_call l.invariant.0 (is_body i) _ (λ e. absurd (going.if1.false e)) (search rules) q.4.ensures.0,
       q.4.ensures.1,
     ))
     (λ q. rw q.2 (
-      record-other l.invariant.0 (is_body i) (λ e. absurd (going.if1.false e)) (search rules) (search rules),
+      record_other l.invariant.0 (is_body i) (λ e. absurd (going.if1.false e)) (search rules) (search rules),
       l.invariant.1,
     )))
     chosen.if3.branch)
 
-pub recorded-spec : {M : Type 1} → statement M
-recorded-spec =
+pub recorded_spec : {M : Type 1} → statement M
+recorded_spec =
     tie.close
     (tie.spec
     invariant-loop

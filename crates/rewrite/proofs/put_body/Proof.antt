@@ -2,7 +2,7 @@
 use mathlib.Core.Path.{refl}
 use Prim.Native.Nat.{◌-◌}
 use native.Mathlib.Omega.{arith}
-use Rattle.rewrite.proofs.BodyLaws.{Going, going_start, going_end, going-size, some_item, fits, going_on}
+use Rattle.rewrite.proofs.BodyLaws.{Going, going_start, going_end, going_size, some_item, fits, going_on}
 use borrow.Author.Rules.{rules}
 use Rattle.rewrite.proofs.put_body.Statement.{statement}
 use Rattle.rewrite.proofs.put_body.Tie as tie
@@ -28,7 +28,7 @@ loop-holds c =
     let a = start.args in
     let e = c.size.ensures.0 in
     going_start a.ks.now a.s.now a.places.now a.at a.end a.own a.p a.out.now
-    start.requires.own-few _ _ refl refl (rw e refl)
+    start.requires.own_few _ _ refl refl (rw e refl)
 
 put-item-requires : tie.Need-put-item-requires invariant-loop decreases-loop
 put-item-requires c κs =
@@ -73,7 +73,7 @@ same_length c =
     let l = turn.loop in
     let start = turn.before.before.before.before.before.before in
     let a = start.args in
-    going-size a.ks.now a.s.now a.places.now a.at a.end a.own a.p a.out.now l.names
+    going_size a.ks.now a.s.now a.places.now a.at a.end a.own a.p a.out.now l.names
     l.w l.out l.invariant start.requires
 
 returns : tie.Need-returns invariant-loop decreases-loop
@@ -85,8 +85,8 @@ returns c =
     going_end a.ks.now a.s.now a.places.now a.at a.end a.own a.p a.out.now l.names
     l.w l.out l.invariant (omega arith)
 
-pub put-body-spec : {M : Type 1} → statement M
-put-body-spec =
+pub put_body_spec : {M : Type 1} → statement M
+put_body_spec =
     tie.close
     (tie.spec
     invariant-loop

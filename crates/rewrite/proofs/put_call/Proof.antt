@@ -1,7 +1,7 @@
 -- `put_call` meets its contract: the code, the routine's new number and the new names, one after the other.
 use mathlib.Core.Path.{refl}
 use native.Mathlib.Omega.{arith}
-use Rattle.rewrite.proofs.TextLaws.{names-ready, pass-call-here}
+use Rattle.rewrite.proofs.TextLaws.{names_ready, pass_call_here}
 use borrow.Author.Rules.{rules}
 use Rattle.rewrite.proofs.put_call.Statement.{statement}
 use Rattle.rewrite.proofs.put_call.Tie as tie
@@ -48,8 +48,8 @@ put-names-requires c κs =
     let x = first.ensures.place in
     let y = second.ensures.place in
     let z = start.requires.0.place in
-    names-ready a.ks.now a.s.now a.w.at a.places.now _ _ _ _ start.requires.1 routine.ensures.0
-    count.ensures.0 count.ensures.1 start.requires.0.names-long (omega arith)
+    names_ready a.ks.now a.s.now a.w.at a.places.now _ _ _ _ start.requires.1 routine.ensures.0
+    count.ensures.0 count.ensures.1 start.requires.0.names_long (omega arith)
 
 add-t13 : tie.Need-overflow-add-t13
 add-t13 c = search rules
@@ -74,11 +74,11 @@ returns c =
     let routine = at_routine.size in
     let start = at_routine.before.before.before.before.before.before in
     let a = start.args in
-    pass-call-here a.ks.now a.s.now _ _ start.requires.1 routine.ensures.0 count.ensures.0 refl
+    pass_call_here a.ks.now a.s.now _ _ start.requires.1 routine.ensures.0 count.ensures.0 refl
     first.ensures second.ensures named.ensures
 
-pub put-call-spec : {M : Type 1} → statement M
-put-call-spec =
+pub put_call_spec : {M : Type 1} → statement M
+put_call_spec =
     tie.close
     (tie.spec
     add-size

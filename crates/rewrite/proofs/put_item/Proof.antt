@@ -2,8 +2,8 @@
 use mathlib.Core.Path.{◌≡◌}
 use lib.ListN.{get_or}
 use Rattle.table.specs.Constants.{NEW, LOCK, CALL, MIRROR, code}
-use Rattle.order.specs.laws.Standing.{item-there, at_new, at-mirror, at-lock, at_call, item-new, item-mirror}
-use Rattle.order.specs.laws.Standing.{item-lock, item-call, item-mark}
+use Rattle.order.specs.Laws.Standing.{item_there, at_new, at_mirror, at_lock, at_call, item_new, item_mirror}
+use Rattle.order.specs.Laws.Standing.{item_lock, item_call, item_mark}
 use borrow.Author.Rules.{rules}
 use Rattle.rewrite.proofs.put_item.Statement.{statement}
 use Rattle.rewrite.proofs.put_item.Tie as tie
@@ -12,7 +12,7 @@ shared-slice-read-b : tie.Need-shared-slice-read-b
 shared-slice-read-b c =
     let start = c.before.before.before.before.before in
     let a = start.args in
-    let h = item-there a.ks.now a.s.now a.w.at a.w.old start.requires.1 in
+    let h = item_there a.ks.now a.s.now a.w.at a.w.old start.requires.1 in
     search rules
 
 put-new-requires : tie.Need-put-new-requires
@@ -27,7 +27,7 @@ put-mirror-requires c κs =
     let start = c.before.before.before.before.before.before.before in
     let a = start.args in
     let e : get_or a.s.now a.w.at 0 ≡ code MIRROR = search rules in
-    let h = at-mirror a.ks.now a.s.now a.w.at a.w.old start.requires.1 e in
+    let h = at_mirror a.ks.now a.s.now a.w.at a.w.old start.requires.1 e in
     (start.requires.0, h.0, h.1)
 
 put-lock-requires : tie.Need-put-lock-requires
@@ -35,7 +35,7 @@ put-lock-requires c κs =
     let start = c.before.before.before.before.before.before.before.before in
     let a = start.args in
     let e : get_or a.s.now a.w.at 0 ≡ code LOCK = search rules in
-    (start.requires.0, at-lock a.ks.now a.s.now a.w.at a.w.old start.requires.1 e)
+    (start.requires.0, at_lock a.ks.now a.s.now a.w.at a.w.old start.requires.1 e)
 
 put-call-requires : tie.Need-put-call-requires
 put-call-requires c κs =
@@ -58,7 +58,7 @@ returns c =
     let start = at-passed.before.before.before.before.before.before.before.before.before in
     let a = start.args in
     let e : get_or a.s.now a.w.at 0 ≡ code NEW = search rules in
-    rw (item-new a.ks.now a.s.now a.w.at e) (passed.ensures _)
+    rw (item_new a.ks.now a.s.now a.w.at e) (passed.ensures _)
 
 returns-2 : tie.Need-returns-2
 returns-2 c =
@@ -67,7 +67,7 @@ returns-2 c =
     let start = at-passed.before.before.before.before.before.before.before.before in
     let a = start.args in
     let e : get_or a.s.now a.w.at 0 ≡ code MIRROR = search rules in
-    rw (item-mirror a.ks.now a.s.now a.w.at e) (passed.ensures _ _)
+    rw (item_mirror a.ks.now a.s.now a.w.at e) (passed.ensures _ _)
 
 same-length-2 : tie.Need-same-length-2
 same-length-2 c = search rules
@@ -79,7 +79,7 @@ returns-3 c =
     let start = at-passed.before.before.before.before.before.before.before.before.before in
     let a = start.args in
     let e : get_or a.s.now a.w.at 0 ≡ code LOCK = search rules in
-    rw (item-lock a.ks.now a.s.now a.w.at e) (passed.ensures _)
+    rw (item_lock a.ks.now a.s.now a.w.at e) (passed.ensures _)
 
 same-length-3 : tie.Need-same-length-3
 same-length-3 c = search rules
@@ -91,7 +91,7 @@ returns-4 c =
     let start = at-passed.before.before.before.before.before.before.before.before.before in
     let a = start.args in
     let e : get_or a.s.now a.w.at 0 ≡ code CALL = search rules in
-    rw (item-call a.ks.now a.s.now a.w.at e) passed.ensures
+    rw (item_call a.ks.now a.s.now a.w.at e) passed.ensures
 
 same-length-4 : tie.Need-same-length-4
 same-length-4 c = search rules
@@ -104,11 +104,11 @@ returns-5 c =
     let m = at-m.match.rest in
     let start = at-m.before.before.before.before.before.before in
     let a = start.args in
-    rw (item-mark a.ks.now a.s.now a.w.at m.0.0.0.1 m.0.0.1 m.0.1 m.1)
+    rw (item_mark a.ks.now a.s.now a.w.at m.0.0.0.1 m.0.0.1 m.0.1 m.1)
     (passed.ensures _ _)
 
-pub put-item-spec : {M : Type 1} → statement M
-put-item-spec =
+pub put_item_spec : {M : Type 1} → statement M
+put_item_spec =
     tie.close
     (tie.spec
     shared-slice-read-b

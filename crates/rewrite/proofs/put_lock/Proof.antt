@@ -1,6 +1,6 @@
 -- `put_lock` meets its contract.
 use mathlib.Core.Path.{refl}
-use Rattle.rewrite.proofs.TextLaws.{pass-lock}
+use Rattle.rewrite.proofs.TextLaws.{pass_lock}
 use borrow.Author.Rules.{rules}
 use Rattle.rewrite.proofs.put_lock.Statement.{statement}
 use Rattle.rewrite.proofs.put_lock.Tie as tie
@@ -37,10 +37,10 @@ returns c =
     let first = at_first.put_byte in
     let at_x = at_first.before.before in
     let x = at_x.size.ensures.0 in
-    pass-lock refl first.ensures (rw x at second.ensures)
+    pass_lock refl first.ensures (rw x at second.ensures)
 
-pub put-lock-spec : {M : Type 1} → statement M
-put-lock-spec =
+pub put_lock_spec : {M : Type 1} → statement M
+put_lock_spec =
     tie.close
     (tie.spec
     add-size

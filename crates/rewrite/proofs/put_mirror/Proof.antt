@@ -1,7 +1,7 @@
 -- `put_mirror` meets its contract: the next name gets what the name that it mirrors has.
 use mathlib.Core.Path.{refl, ap}
 use lib.ListN.{get_or, set}
-use Rattle.rewrite.proofs.TextLaws.{pass-mirror}
+use Rattle.rewrite.proofs.TextLaws.{pass_mirror}
 use borrow.Author.Rules.{rules}
 use Rattle.rewrite.proofs.put_mirror.Statement.{statement}
 use Rattle.rewrite.proofs.put_mirror.Tie as tie
@@ -32,10 +32,10 @@ returns c =
     let start = c.before.before.before.before in
     let a = start.args in
     let x = c.before.size.ensures.0 in
-    pass-mirror a.s.now (ap (λ y. set a.names.now a.w.old (get_or a.names.now y 0)) x) refl
+    pass_mirror a.s.now (ap (λ y. set a.names.now a.w.old (get_or a.names.now y 0)) x) refl
 
-pub put-mirror-spec : {M : Type 1} → statement M
-put-mirror-spec =
+pub put_mirror_spec : {M : Type 1} → statement M
+put_mirror_spec =
     tie.close
     (tie.spec
     add-size

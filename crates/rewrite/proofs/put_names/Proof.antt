@@ -3,15 +3,15 @@ use mathlib.Core.Path.{◌≡◌}
 use Prim.Native.Nat.{◌+◌, ◌-◌, ◌≤◌}
 use native.Mathlib.Omega.{arith}
 use Rattle.append.specs.Appends.{Appends}
-use Rattle.append.specs.laws.Appending.{nothing, same_size}
-use Rattle.rewrite.specs.Writing.{newNames}
-use Rattle.rewrite.proofs.TextLaws.{names_more, names-all}
+use Rattle.append.specs.Laws.Appending.{nothing, same_size}
+use Rattle.rewrite.specs.Writing.{new_names}
+use Rattle.rewrite.proofs.TextLaws.{names_more, names_all}
 use borrow.Author.Rules.{rules}
 use Rattle.rewrite.proofs.put_names.Statement.{statement}
 use Rattle.rewrite.proofs.put_names.Tie as tie
 
 abbrev invariant-loop : tie.invariant-loop
-invariant-loop s at q names out₀ p i₀ r₀ out i r = (i ≤ q) × (r ≡ p + i) × Appends p (newNames names s at i) out₀ out r
+invariant-loop s at q names out₀ p i₀ r₀ out i r = (i ≤ q) × (r ≡ p + i) × Appends p (new_names names s at i) out₀ out r
 
 abbrev decreases-loop : tie.decreases-loop
 decreases-loop s at q names out₀ p i₀ r₀ out i r = q - i
@@ -70,10 +70,10 @@ returns c =
     let l = turn.loop in
     let a = turn.before.before.before.args in
     let e : l.i ≡ a.q = omega arith in
-    names-all a.names.now a.s.now a.at l.i a.q e l.invariant.2
+    names_all a.names.now a.s.now a.at l.i a.q e l.invariant.2
 
-pub put-names-spec : {M : Type 1} → statement M
-put-names-spec =
+pub put_names_spec : {M : Type 1} → statement M
+put_names_spec =
     tie.close
     (tie.spec
     invariant-loop

@@ -1,7 +1,7 @@
 -- `cell_byte` meets its contract: the forks and unknown are bits in a row, whose number is zero where there is none.
 use native.Mathlib.Omega.{arith}
 use borrow.Author.Rules.{rules}
-use Rattle.rows.proofs.Masks.{cell-bits}
+use Rattle.rows.proofs.Masks.{cell_bits_lem}
 use Rattle.rows.proofs.cell_byte.Statement.{statement}
 use Rattle.rows.proofs.cell_byte.Tie as tie
 
@@ -25,12 +25,12 @@ cast-result-2 c = search rules
 
 returns : tie.Need-returns
 returns c =
-    cell-bits c.before.args.m _ 0 (omega arith) (omega arith) (λ e. absurd (omega arith)) (λ e. c.if1.true)
+    cell_bits_lem c.before.args.m _ 0 (omega arith) (omega arith) (λ e. absurd (omega arith)) (λ e. c.if1.true)
 
 returns-2 : tie.Need-returns-2
 returns-2 c =
-    cell-bits c.before.args.m _ 1 (omega arith) (omega arith) (λ e. c.if1.false) (λ e. absurd (omega arith))
+    cell_bits_lem c.before.args.m _ 1 (omega arith) (omega arith) (λ e. c.if1.false) (λ e. absurd (omega arith))
 
-pub cell-byte-spec : {M : Type 1} → statement M
-cell-byte-spec =
+pub cell_byte_spec : {M : Type 1} → statement M
+cell_byte_spec =
     tie.close (tie.spec mul-ends add-ends rem-if1 cast-result add-result cast-result-2 returns returns-2)

@@ -4,7 +4,7 @@ use Prim.Native.Nat.{◌-◌, ◌≤◌}
 use native.Mathlib.Omega.{arith}
 use borrow.Author.Rules.{rules}
 use Rattle.rows.specs.Model.{Cleared}
-use Rattle.rows.proofs.Clearing.{cleared-none, cleared_more}
+use Rattle.rows.proofs.Clearing.{cleared_none, cleared_more}
 use Rattle.rows.proofs.clear.Statement.{statement}
 use Rattle.rows.proofs.clear.Tie as tie
 
@@ -15,7 +15,7 @@ abbrev decreases-loop : tie.decreases-loop
 decreases-loop model₀ start end i₀ model i = end - i
 
 loop-holds : tie.Need-loop-init invariant-loop decreases-loop
-loop-holds c = (omega arith, omega arith, cleared-none _ _)
+loop-holds c = (omega arith, omega arith, cleared_none _ _)
 
 slice-write-model : tie.Need-slice-write-model invariant-loop decreases-loop
 slice-write-model c = search rules

@@ -27,7 +27,7 @@ returns-3 c =
     cell-of-byte a.i a.a a.b a.m s.cell-byte.result _ _ _ s.before.before.if1.false
     s.cell-byte.ensures c.before.before.with_byte.ensures
 
-pub with-cell-spec : {M : Type 1} → statement M
-with-cell-spec =
+pub with_cell_spec : {M : Type 1} → statement M
+with_cell_spec =
     tie.close
     (tie.spec returns returns-2 cell-byte-requires with-byte-requires same_length returns-3)

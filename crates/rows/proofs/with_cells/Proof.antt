@@ -66,8 +66,8 @@ returns c =
     let e : l.b ≡ c.before.before.before.args.k + 1 = omega arith in
     rw e at l.invariant.2
 
-pub with-cells-spec : {M : Type 1} → statement M
-with-cells-spec =
+pub with_cells_spec : {M : Type 1} → statement M
+with_cells_spec =
     tie.close
     (tie.spec
     invariant-loop

@@ -58,8 +58,8 @@ returns c =
     let e : l.a ≡ c.before.before.before.args.k + 1 = omega arith in
     rw e at l.invariant.2
 
-pub with-pairs-spec : {M : Type 1} → statement M
-with-pairs-spec =
+pub with_pairs_spec : {M : Type 1} → statement M
+with_pairs_spec =
     tie.close
     (tie.spec
     invariant-loop

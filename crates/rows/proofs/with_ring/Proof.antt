@@ -1,7 +1,7 @@
 -- `with_ring` meets its contract: a ring name sets the byte, and 16 leaves it.
 use native.Mathlib.Omega.{arith}
 use borrow.Author.Rules.{rules}
-use Rattle.rows.proofs.Adding.{no_name, name-of-byte}
+use Rattle.rows.proofs.Adding.{no_name, name_of_byte}
 use Rattle.rows.proofs.with_ring.Statement.{statement}
 use Rattle.rows.proofs.with_ring.Tie as tie
 
@@ -22,7 +22,7 @@ returns-2 c =
     let start = tested.before.before in
     let a = start.args in
     let some = tested.if1.false in
-    name-of-byte a.i a.x _ _ _ (let l = start.requires.1 in omega arith) c.before.before.with_byte.ensures
+    name_of_byte a.i a.x _ _ _ (let l = start.requires.1 in omega arith) c.before.before.with_byte.ensures
 
-pub with-ring-spec : {M : Type 1} → statement M
-with-ring-spec = tie.close (tie.spec returns with-byte-requires same_length returns-2)
+pub with_ring_spec : {M : Type 1} → statement M
+with_ring_spec = tie.close (tie.spec returns with-byte-requires same_length returns-2)

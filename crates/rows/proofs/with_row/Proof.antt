@@ -1,6 +1,6 @@
 -- `with_row` meets its contract: what is added to the cells and then to the last byte is the row of the grid.
 use borrow.Author.Rules.{rules}
-use Rattle.rows.proofs.Rows.{row-added}
+use Rattle.rows.proofs.Rows.{row_added}
 use Rattle.rows.proofs.with_row.Statement.{statement}
 use Rattle.rows.proofs.with_row.Tie as tie
 
@@ -36,12 +36,12 @@ returns c =
     let ringed = cells.before.before.before in
     let start = ringed.before.before in
     let a = start.args in
-    row-added a.model.now _ _ a.r a.k a.t4 cells.with-pairs.result last.with-ring.result
-    ringed.ring-name.result start.requires.0 (λ i. (c.slice-known3.given i).fits) start.well-formed.1.1.1.0.1.0.1
+    row_added a.model.now _ _ a.r a.k a.t4 cells.with-pairs.result last.with-ring.result
+    ringed.ring-name.result start.requires.0 (λ i. (c.slice-known3.given i).fits) start.well_formed.1.1.1.0.1.0.1
     ringed.ring-name.ensures start.requires.2 cells.with-pairs.ensures last.with-ring.ensures
 
-pub with-row-spec : {M : Type 1} → statement M
-with-row-spec =
+pub with_row_spec : {M : Type 1} → statement M
+with_row_spec =
     tie.close
     (tie.spec mul-start ring-name-requires with-pairs-requires add-with-ring with-ring-requires cast-t17 same_length
     returns)

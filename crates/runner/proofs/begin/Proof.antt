@@ -1,6 +1,6 @@
 -- `begin` meets its contract: with no record there is nothing to be done.
 use mathlib.Core.Path.{◌∙◌}
-use Rattle.runner.proofs.BeginLaws.{first-none, first_some, none-started}
+use Rattle.runner.proofs.BeginLaws.{first_none, first_some, none_started}
 use borrow.Author.Rules.{rules}
 use Rattle.runner.proofs.begin.Statement.{statement}
 use Rattle.runner.proofs.begin.Tie as tie
@@ -9,12 +9,12 @@ unbegun-requires : tie.Need-unbegun-requires
 unbegun-requires c κs = search rules
 
 returns : tie.Need-returns
-returns c = let i = c.before in i.unbegun.ensures ∙ first-none i.before.args.lent (search rules)
+returns c = let i = c.before in i.unbegun.ensures ∙ first_none i.before.args.lent (search rules)
 
 starting-requires : tie.Need-starting-requires
 starting-requires c κs =
     let i = c.before in
-    none-started i.before.args.lent i.unbegun.result i.unbegun.ensures
+    none_started i.before.args.lent i.unbegun.result i.unbegun.ensures
 
 returns-2 : tie.Need-returns-2
 returns-2 c =
@@ -22,5 +22,5 @@ returns-2 c =
     first_some i.before.args.lent i.unbegun.result c.starting.result i.unbegun.ensures
     c.starting.ensures (search rules)
 
-pub begin-spec : {M : Type 1} → statement M
-begin-spec = tie.close (tie.spec unbegun-requires returns starting-requires returns-2)
+pub begin_spec : {M : Type 1} → statement M
+begin_spec = tie.close (tie.spec unbegun-requires returns starting-requires returns-2)

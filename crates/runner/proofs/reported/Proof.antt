@@ -1,6 +1,6 @@
 -- `reported` meets its contract: each answer has its number, and how far the run came.
 use mathlib.Core.Path.{sym, ◌∙◌, ap}
-use Rattle.runner.specs.Answer.{reportOf}
+use Rattle.runner.specs.Answer.{report_of}
 use borrow.Author.Rules.{rules}
 use Rattle.runner.proofs.reported.Statement.{statement}
 use Rattle.runner.proofs.reported.Tie as tie
@@ -39,25 +39,25 @@ report-of-requires-5 : tie.Need-report-of-requires-5
 report-of-requires-5 c κs = search rules
 
 returns : tie.Need-returns
-returns c = sym (ap reportOf c.before.r.given.1)
+returns c = sym (ap report_of c.before.r.given.1)
 
 returns-2 : tie.Need-returns-2
-returns-2 c = c.report-of.ensures ∙ sym (ap reportOf c.before.before.r2.given.1)
+returns-2 c = c.report-of.ensures ∙ sym (ap report_of c.before.before.r2.given.1)
 
 returns-3 : tie.Need-returns-3
-returns-3 c = c.report-of2.ensures ∙ sym (ap reportOf c.before.before.r3.given.1)
+returns-3 c = c.report-of2.ensures ∙ sym (ap report_of c.before.before.r3.given.1)
 
 returns-4 : tie.Need-returns-4
-returns-4 c = c.report-of3.ensures ∙ sym (ap reportOf c.before.before.r4.given.1)
+returns-4 c = c.report-of3.ensures ∙ sym (ap report_of c.before.before.r4.given.1)
 
 returns-5 : tie.Need-returns-5
-returns-5 c = c.report-of4.ensures ∙ sym (ap reportOf c.before.before.r5.given.1)
+returns-5 c = c.report-of4.ensures ∙ sym (ap report_of c.before.before.r5.given.1)
 
 returns-6 : tie.Need-returns-6
-returns-6 c = c.report-of5.ensures ∙ sym (ap reportOf c.before.before.r6.given.1)
+returns-6 c = c.report-of5.ensures ∙ sym (ap report_of c.before.before.r6.given.1)
 
-pub reported-spec : {M : Type 1} → statement M
-reported-spec =
+pub reported_spec : {M : Type 1} → statement M
+reported_spec =
     tie.close
     (tie.spec
     enum-known-r

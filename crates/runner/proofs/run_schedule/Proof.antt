@@ -39,16 +39,16 @@ use denote.Triple.Entry.{Args, Vals}
 use denote.Triple.Walked.{says}
 use Rattle.steps.specs.declared.thread.Thread.{Thread as Record}
 use Rattle.steps.specs.declared.machine.Machine.{Machine}
-use Rattle.runner.specs.Ticks.{sectionOf, Ticks}
-use Rattle.runner.specs.Contracts.{Prepared, answer_of}
-use Rattle.runner.specs.laws.Sections.{can-run, has-run}
+use Rattle.runner.specs.Ticks.{section_of, Ticks}
+use Rattle.runner.specs.Parts.{Prepared, answer_of}
+use Rattle.runner.specs.Laws.Sections.{can_run, has_run}
 use Rattle.runner.specs.contracts.Ran as R
 use Rattle.runner.proofs.Ran.TheLaws as R'
-use Rattle.runner.proofs.LendLaws.{ref-at, fills, lends-array, takes_array, shares_array, frees-array}
-use Rattle.runner.proofs.ParamLaws.{machine-typed, spelled₃, told₃, said₃, heard₆}
-use Rattle.runner.proofs.WalkLaws.{slice-typed, span, owners, tokens, together, spread, pack, allocated, freed}
-use Rattle.runner.proofs.WalkLaws.{reads, asks-that, asks-one, called, called-last, Terms, triple, Known, Walk}
-use Rattle.runner.proofs.WalkLaws.{ends, tablesAt, cite, by-walk}
+use Rattle.runner.proofs.LendLaws.{ref_at, fills, lends_array, takes_array, shares_array, frees_array}
+use Rattle.runner.proofs.ParamLaws.{machine_typed, spelled₃, told₃, said₃, heard₆}
+use Rattle.runner.proofs.WalkLaws.{slice_typed, span, owners, tokens, together, spread, pack, allocated, freed}
+use Rattle.runner.proofs.WalkLaws.{reads, asks_that, asks_one, called, called_last, Terms, triple, Known, Walk}
+use Rattle.runner.proofs.WalkLaws.{ends, tables_at, cite, by_walk}
 use Rattle.runner.specs.contracts.prepared as prepared
 use Rattle.runner.proofs.prepared.Symbol.{name as #prepared}
 use Rattle.runner.proofs.prepared.Met as prepared-thm
@@ -127,26 +127,26 @@ module _ {M : Type 1} {𝓤 : Ura M} (𝓛 : Logic 𝓤) (mem : Memory → SProp
   -- `ticks` with the machine m, whose machine value is u
   module _ (l₄ l₅ : ℕ) (c : Loans) (xs ys : List ℕ) where
     abbrev args₁ : Args prepared.signature (lfts₁ c)
-    args₁ = (table, (schedule, (length rs.now, (ref-at l₄ 0 c.0.1 xs, (ref-at l₅ 0 c.1.1 ys, tt)))))
+    args₁ = (table, (schedule, (length rs.now, (ref_at l₄ 0 c.0.1 xs, (ref_at l₅ 0 c.1.1 ys, tt)))))
 
     abbrev vals₁ : Vals prepared.signature (lfts₁ c)
     vals₁ = (vals.0, (vals.1.0, (vint w64 (length rs.now) ∷ [], (vptr l₄ 0 ∷ [], (vptr l₅ 0 ∷ [], tt)))))
 
-    abbrev to-prepare : (triple 𝓛 Preparing).Ghost
-    to-prepare = ((lfts₁ c, shares₁, tt, args₁, vals₁), tt)
+    abbrev to_prepare : (triple 𝓛 Preparing).Ghost
+    to_prepare = ((lfts₁ c, shares₁, tt, args₁, vals₁), tt)
 
     abbrev args₂ : Machine → Args ticks.signature (lfts₂ c)
-    args₂ m = (table, (ref-at l₄ 0 c.0.1 xs, (ref-at l₅ 0 c.1.1 ys, (schedule, (rs, (m, tt))))))
+    args₂ m = (table, (ref_at l₄ 0 c.0.1 xs, (ref_at l₅ 0 c.1.1 ys, (schedule, (rs, (m, tt))))))
 
     abbrev vals₂ : Val → Vals ticks.signature (lfts₂ c)
     vals₂ u = (vals.0, (vptr l₄ 0 ∷ [], (vptr l₅ 0 ∷ [], (vals.1.0, (vals.1.1.0, (u ∷ [], tt))))))
 
-    abbrev to-ticks : Machine → Val → (triple 𝓛 Ticking).Ghost
-    to-ticks m u = ((lfts₂ c, shares₂, tt, args₂ m, vals₂ u), tt)
+    abbrev to_ticks : Machine → Val → (triple 𝓛 Ticking).Ghost
+    to_ticks m u = ((lfts₂ c, shares₂, tt, args₂ m, vals₂ u), tt)
 
   -- what `answered` is passed: the machine n, with the machine value w
-  abbrev to-answer : Machine → Val → (triple 𝓛 Answered).Ghost
-  to-answer n w = ((tt, tt, tt, (n, tt), (w ∷ [], tt)), tt)
+  abbrev to_answer : Machine → Val → (triple 𝓛 Answered).Ghost
+  to_answer n w = ((tt, tt, tt, (n, tt), (w ∷ [], tt)), tt)
 
   walk : (𝓣 : Tables 𝓤 H) → Known 𝓛 Preparing 𝓣 #prepared → Known 𝓛 Ticking 𝓣 #ticks
       → Known 𝓛 Answered 𝓣 #answered → Are kinds (Ises kinds) args vals → Walk 𝓛 Own 𝓣 code.function bound
@@ -156,9 +156,9 @@ module _ {M : Type 1} {𝓤 : Ura M} (𝓛 : Logic 𝓤) (mem : Memory → SProp
       split ! $ spread ! (tokens 3 κs qs) $ move ! (3 ∷ []) $ spread ! (owners kinds args vals) $ pack ! 2 $
       enter ! 𝓣.C 𝓣.Λ code.function _ _ $ allocated ! _ (λ bs.
       let l₄ = bs.1.1.1.1.0 in let l₅ = bs.1.1.1.1.1.0 in params1 ! $
-      pass1 ! (init ! 2 refl (slice-typed are.0.0.1.0)) $
-      pass1 ! (init ! 4 refl (slice-typed are.1.0.0.1.0)) $
-      pass1 ! (init ! 6 refl (slice-typed fits)) $ pass0 ! $
+      pass1 ! (init ! 2 refl (slice_typed are.0.0.1.0)) $
+      pass1 ! (init ! 4 refl (slice_typed are.1.0.0.1.0)) $
+      pass1 ! (init ! 6 refl (slice_typed fits)) $ pass0 ! $
       -- [the locals: 30 entries; what the texts own, and the records; the three tokens]
       move ! (8 ∷ []) $ fills ! refl (λ xs x-long. move ! (10 ∷ []) $ fills ! refl (λ ys y-long.
       -- [links; heads; the locals, without these: 28 entries; the texts; the records; the tokens]
@@ -166,29 +166,29 @@ module _ {M : Type 1} {𝓤 : Ura M} (𝓛 : Logic 𝓤) (mem : Memory → SProp
       (from ! (stop !)) (init ! 16 refl (tt, record { fits = fits })) $
       assigns ! (addr ! (from ! (stop !))) (from ! (stop !)) (init ! 18 refl (tt, tt)) $
       assigns ! (addr ! (from ! (stop !))) (from ! (stop !)) (init ! 20 refl (tt, tt)) $
-      lends-array ! tt (named 3) 4096 l₅ ys (λ β δ. move ! (3 ∷ []) $ lends-array ! tt (named 2) 64 l₄ xs (λ α γ.
+      lends_array ! tt (named 3) 4096 l₅ ys (λ β δ. move ! (3 ∷ []) $ lends_array ! tt (named 2) 64 l₄ xs (λ α γ.
       let c : Loans = ((α, γ), (β, δ)) in
       -- [heads; its lender; its token; links; its lender; its token; the locals; the texts; the records; the tokens]
       move ! (34 ∷ []) $ use1 𝓛 (together texts ⊛ together texts) twice $ split ! $ spread ! texts $
       owned ! usize (Is usize) (uint_Makes 𝓛 w64) (length rs.now) _ (refl, fits) $
       move ! (1 ∷ 2 ∷ 0 ∷ 4 ∷ 7 ∷ []) $ pack ! 5 $ move ! (35 ∷ 36 ∷ 3 ∷ 5 ∷ []) $ pack ! 4 $ join ! $
       -- [what `prepared` asks; the texts; the lenders of heads and of links; the locals; the records; their token]
-      called-last ! 𝓣 Preparing known-prepare (to-prepare l₄ l₅ c xs ys)
-      (asks-that 𝓤 _ (x-long, y-long)) (and_then ! (reads ! 6 refl) (and_then ! (reads ! 8 refl)
+      called_last ! 𝓣 Preparing known-prepare (to_prepare l₄ l₅ c xs ys)
+      (asks_that 𝓤 _ (x-long, y-long)) (and_then ! (reads ! 6 refl) (and_then ! (reads ! 8 refl)
       (and_then ! (reads ! 18 refl) (and_then ! (reads ! 20 refl) (and_then ! (reads ! 22 refl) (no_more !))))))
       (λ m ws. Prepared table.now schedule.now (length rs.now) ws.1.1.1.0 ws.1.1.1.1.0 m)
       (λ m ws. id⊢ 𝓤 _) (λ u m ws made is.
       let hs : List ℕ = ws.1.1.1.0 in
       let gs : List ℕ = ws.1.1.1.1.0 in
       -- [what m owns; the tokens; the last of heads and of links; the texts; the lenders; the locals; …]
-      land ! (from ! (stop !)) (init ! 16 refl (machine-typed 𝓛 m u is)) $
+      land ! (from ! (stop !)) (init ! 16 refl (machine_typed 𝓛 m u is)) $
       assigns ! (addr ! (from ! (stop !))) (from ! (stop !)) (init ! 26 refl (tt, tt)) $
       assigns ! (addr ! (from ! (stop !))) (from ! (stop !)) (init ! 28 refl (tt, tt)) $
       assigns ! (addr ! (from ! (fld ! refl (hop ! (look_in ! 12 (sub ! 0 refl (whole !))) (stop !)))))
       (from ! (stop !)) (init ! 30 refl (tt, tt)) $
       assigns ! (agg ! (and_then ! (reads ! 30 refl)
       (and_then ! (load ! (from ! (fld ! refl (stop !))) (look_in ! 12 (sub ! 1 refl (whole !)))) (no_more !))))
-      (from ! (stop !)) (init ! 32 refl (slice-typed fits)) $
+      (from ! (stop !)) (init ! 32 refl (slice_typed fits)) $
       -- the arrays are had back, and lent again
       move ! (2 ∷ []) $ fsplit3 ! $ drop ! $ drop ! $ fsplit ! $ drop ! $ fsplit3 ! $
       move ! (4 ∷ []) $ spread ! (tokens 4 (lfts₁ c) shares₁) $
@@ -200,37 +200,37 @@ module _ {M : Type 1} {𝓤 : Ura M} (𝓛 : Logic 𝓤) (mem : Memory → SProp
       move ! (10 ∷ []) $ use1 𝓛 (together texts ⊛ together texts) twice $ split ! $ spread ! texts $
       move ! (0 ∷ 6 ∷ 3 ∷ 1 ∷ 41 ∷ 12 ∷ []) $ pack ! 6 $ move ! (6 ∷ 5 ∷ 3 ∷ 7 ∷ 37 ∷ []) $ pack ! 5 $ join ! $
       -- [what `ticks` asks; the texts; the lenders of links and of heads; nothing; the locals]
-      called-last ! 𝓣 Ticking known-ticks (to-ticks l₄ l₅ c hs gs m u)
-      (asks-that 𝓤 _ (can-run table.now schedule.now hs gs rs.now m made)) (and_then ! (reads ! 7 refl)
+      called_last ! 𝓣 Ticking known-ticks (to_ticks l₄ l₅ c hs gs m u)
+      (asks_that 𝓤 _ (can_run table.now schedule.now hs gs rs.now m made)) (and_then ! (reads ! 7 refl)
       (and_then ! (reads ! 25 refl) (and_then ! (reads ! 27 refl) (and_then ! (reads ! 9 refl)
       (and_then ! (reads ! 31 refl) (and_then ! (reads ! 15 refl) (no_more !)))))))
-      (λ n ws. Ticks (sectionOf table.now hs gs schedule.now) rs.now m ws.1.1.1.1.0 n × (n.stage ≡ 2))
+      (λ n ws. Ticks (section_of table.now hs gs schedule.now) rs.now m ws.1.1.1.1.0 n × (n.stage ≡ 2))
       (λ n ws. id⊢ 𝓤 _) (λ w n ws ran is'.
-      land ! (from ! (stop !)) (init ! 19 refl (machine-typed 𝓛 n w is')) $
-      called ! 𝓣 Answered known-answer (to-answer n w) (asks-one 𝓤 _)
+      land ! (from ! (stop !)) (init ! 19 refl (machine_typed 𝓛 n w is')) $
+      called ! 𝓣 Answered known-answer (to_answer n w) (asks_one 𝓤 _)
       (and_then ! (reads ! 19 refl) (no_more !)) (λ r. r ≡ answer_of n) (λ r ws. id⊢ 𝓤 _) (λ v r e is''.
       land ! (from ! (stop !)) (init ! 8 refl ((EL.lawful R.the_type R'.the_laws 𝓛 tt).typed r _ is'').0) $
       -- [the result; nothing; the tokens; the last records; the texts; the lenders; nothing; the locals]: the arrays
       -- are room again
       move ! (3 ∷ []) $ heard₆ ! (lfts₂ c) (args₂ l₄ l₅ c hs gs m) ws (λ long.
       move ! (3 ∷ []) $ spread ! (tokens 5 (lfts₂ c) shares₂) $
-      move ! (2 ∷ 9 ∷ []) $ frees-array ! tt 4096 l₅ β gs $ move ! (2 ∷ 9 ∷ []) $ frees-array ! tt 64 l₄ α hs $
+      move ! (2 ∷ 9 ∷ []) $ frees_array ! tt 4096 l₅ β gs $ move ! (2 ∷ 9 ∷ []) $ frees_array ! tt 64 l₄ α hs $
       -- [heads; links; the tokens; the last records; the result; …; the locals]
       returns ! (look ! 10 refl) $ move ! (span 10 8 ++ 0 ∷ 18 ∷ 1 ∷ span 19 19) $ freed ! $ freed ! $ freed ! $
       freed ! $ free1 ! $ free1 ! $ freed ! $ freed ! $ freed ! $ freed ! $ freed ! $ freed ! $ freed ! $ freed ! $
       freed ! $ free0 ! $
       suffices ! _ (ends 𝓛 Own bound v r (tt, (tt, (ws.1.1.1.1.0, tt)))) $
-      says ! (has-run table.now schedule.now hs gs rs.now m ws.1.1.1.1.0 n r made ran.0 ran.1 e) $
+      says ! (has_run table.now schedule.now hs gs rs.now m ws.1.1.1.1.0 n r made ran.0 ran.1 e) $
       pack ! 3 $ frame ! $ move ! (1 ∷ []) $ frame ! $ keep ! (0 ∷ []) $
       by ! (said₃ 𝓛 κs args ws.1.1.1.1.0 long))))))))))))
 
-pub run-schedule-spec : {M : Type 1} → stated.statement M
+pub run_schedule_spec : {M : Type 1} → stated.statement M
 unfolding code.routine
-run-schedule-spec 𝓤 𝓛 𝓜 𝓡 =
-    by-walk 𝓛 𝓜 𝓡 code.env (run-schedule.ended, run-schedule.clauses 𝓛 𝓜.mem 𝓡.run)
+run_schedule_spec 𝓤 𝓛 𝓜 𝓡 =
+    by_walk 𝓛 𝓜 𝓡 code.env (run-schedule.ended, run-schedule.clauses 𝓛 𝓜.mem 𝓡.run)
     #run-schedule code.function (code.unfolded 𝓤 𝓛.H 𝓜 𝓡) spelled₃ told₃ (λ κs qs bounds a g are.
     walk 𝓛 𝓜.mem 𝓡.run κs qs a.0 a.1.0 a.1.1.0
-    (tablesAt 𝓛 𝓜 𝓡 code.env)
+    (tables_at 𝓛 𝓜 𝓡 code.env)
     (cite 𝓛 𝓜 𝓡 code.env code.calls-runner::prepared (prepared-thm.met 𝓤 𝓛 𝓜 𝓡))
     (cite 𝓛 𝓜 𝓡 code.env code.calls-runner::ticks (ticks-thm.met 𝓤 𝓛 𝓜 𝓡))
     (cite 𝓛 𝓜 𝓡 code.env code.calls-runner::answered (answered-thm.met 𝓤 𝓛 𝓜 𝓡)) are)

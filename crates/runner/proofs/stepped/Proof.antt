@@ -3,13 +3,13 @@ use mathlib.Core.Path.{◌∙◌, ap}
 use Prim.Native.Nat.{ℕ, ◌+◌, ◌<◌}
 use lib.ListN.{length, get_or}
 use denote.Struct.Laws.{owed}
-use Rattle.schedule.specs.Limits.{most-frames, all-names}
-use Rattle.steps.specs.Steps.{stepAs}
+use Rattle.schedule.specs.Limits.{most_frames, all_names}
+use Rattle.steps.specs.Steps.{step_as}
 use Rattle.steps.specs.contracts.Ticked as TickedT
 use Rattle.steps.proofs.Ticked.TheLaws as TickedL
 use Rattle.steps.specs.contracts.thread.Thread as ThreadT
 use Rattle.steps.proofs.thread.Thread.TheLaws as ThreadL
-use Rattle.runner.proofs.SectionLaws.{unmapped, sections-in, Counts, Bytes}
+use Rattle.runner.proofs.SectionLaws.{unmapped, sections_in, Counts, Bytes}
 use borrow.Author.Rules.{rules}
 use Rattle.runner.proofs.stepped.Statement.{statement}
 use Rattle.runner.proofs.stepped.Tie as tie
@@ -26,7 +26,7 @@ begun r = r.before.before.before.before
 
 -- where the sections stand in the table
 sections : (i : Begun) → get_or i.args.table.now 0 0 + 3 < length i.args.table.now
-sections i = sections-in i.args.table.now i.requires.some
+sections i = sections_in i.args.table.now i.requires.some
 
 shared-slice-read-size : tie.Need-shared-slice-read-size
 shared-slice-read-size c = let h = sections c.before.before.before in search rules
@@ -69,17 +69,17 @@ returns c =
     let g = owed ThreadT.the_type ThreadL.the_laws c.step.result.thread _ f.0 in
     let r = c.step.result.thread in (
       c.step.ensures
-          ∙ ap (λ (n : ℕ). stepAs (Counts a.table.now n) (Bytes a.table.now n) a.heads.now a.links.now
+          ∙ ap (λ (n : ℕ). step_as (Counts a.table.now n) (Bytes a.table.now n) a.heads.now a.links.now
           a.schedule.now a.t a.m) n.size.ensures.0,
       record {
-        kinds = unmapped r.kinds most-frames g.1.1.1.0.1.0.1;
-        goes = unmapped r.goes most-frames g.1.1.1.1.0.1.0.1;
-        names = unmapped r.names all-names g.1.1.1.1.1.0.1.0.1;
+        kinds = unmapped r.kinds most_frames g.1.1.1.0.1.0.1;
+        goes = unmapped r.goes most_frames g.1.1.1.1.0.1.0.1;
+        names = unmapped r.names all_names g.1.1.1.1.1.0.1.0.1;
       },
     )
 
-pub stepped-spec : {M : Type 1} → statement M
-stepped-spec =
+pub stepped_spec : {M : Type 1} → statement M
+stepped_spec =
     tie.close
     (tie.spec
     shared-slice-read-size

@@ -44,12 +44,12 @@ use Rattle.steps.specs.contracts.Ticked as S
 use Rattle.steps.proofs.Ticked.TheLaws as S'
 use Rattle.steps.specs.Shown.{blank}
 use Rattle.links.specs.Lies.{Section}
-use Rattle.runner.specs.Ticks.{sectionOf, looked, tickAs, Sized, CanTick}
-use Rattle.runner.proofs.LendLaws.{ref-at, obs-last}
-use Rattle.runner.proofs.ParamLaws.{record-typed, machine-typed, spelled₆, told₆, said₆}
-use Rattle.runner.proofs.WalkLaws.{Terms, env, slice-typed, span, cell, owners, tokens, together, spread, pack}
-use Rattle.runner.proofs.WalkLaws.{allocated, freed, reads, big-lit, asks-that, asks-one, called, triple, Known}
-use Rattle.runner.proofs.WalkLaws.{Walk, ends, tablesAt, cite, by-walk}
+use Rattle.runner.specs.Ticks.{section_of, looked, tick_as, Sized, CanTick}
+use Rattle.runner.proofs.LendLaws.{ref_at, obs_last}
+use Rattle.runner.proofs.ParamLaws.{record_typed, machine_typed, spelled₆, told₆, said₆}
+use Rattle.runner.proofs.WalkLaws.{Terms, env, slice_typed, span, cell, owners, tokens, together, spread, pack}
+use Rattle.runner.proofs.WalkLaws.{allocated, freed, reads, big_lit, asks_that, asks_one, called, triple, Known}
+use Rattle.runner.proofs.WalkLaws.{Walk, ends, tables_at, cite, by_walk}
 use Rattle.runner.specs.contracts.stepped as stepped
 use Rattle.runner.proofs.stepped.Symbol.{name as #stepped}
 use Rattle.runner.proofs.stepped.Met as stepped-thm
@@ -91,7 +91,7 @@ module _ {M : Type 1} {𝓤 : Ura M} (𝓛 : Logic 𝓤) (mem : Memory → SProp
 
   -- what the tick is of: the section, the number of the record that is looked at, the record, and its machine value
   abbrev z : Section
-  z = sectionOf table.now heads.now links.now schedule.now
+  z = section_of table.now heads.now links.now schedule.now
 
   abbrev i : ℕ
   i = m.pick
@@ -107,7 +107,7 @@ module _ {M : Type 1} {𝓤 : Ura M} (𝓛 : Logic 𝓤) (mem : Memory → SProp
   kinds = types_at (tick.signature).params κs
 
   abbrev args : Args tick.signature κs
-  args = (table, (heads, (links, (schedule, (ref-at b o γ ts, (m, tt))))))
+  args = (table, (heads, (links, (schedule, (ref_at b o γ ts, (m, tt))))))
 
   abbrev vals : Vals tick.signature κs
   vals = valss kinds (spelled₆ κs) args
@@ -116,11 +116,11 @@ module _ {M : Type 1} {𝓤 : Ura M} (𝓛 : Logic 𝓤) (mem : Memory → SProp
   bound = ((κs, qs, tt, args, vals), tt)
 
   -- what `stepped` is passed; and `thread_of` and `machine_of`: the step a, with the machine value u
-  abbrev step-vals : Vals stepped.signature κ⁴
-  step-vals = (vals.0, (vals.1.0, (vals.1.1.0, (vals.1.1.1.0, (vt, vals.1.1.1.1.1)))))
+  abbrev step_vals : Vals stepped.signature κ⁴
+  step_vals = (vals.0, (vals.1.0, (vals.1.1.0, (vals.1.1.1.0, (vt, vals.1.1.1.1.1)))))
 
   abbrev to_step : (triple 𝓛 Stepped).Ghost
-  to_step = ((κ⁴, q⁴, tt, (table, (heads, (links, (schedule, (t, (m, tt)))))), step-vals), tt)
+  to_step = ((κ⁴, q⁴, tt, (table, (heads, (links, (schedule, (t, (m, tt)))))), step_vals), tt)
 
   abbrev to_part : Ticked → Val → (triple 𝓛 ThreadOf).Ghost
   to_part a u = ((tt, tt, tt, (a, tt), (u ∷ [], tt)), tt)
@@ -132,7 +132,7 @@ module _ {M : Type 1} {𝓤 : Ura M} (𝓛 : Logic 𝓤) (mem : Memory → SProp
   walk 𝓣 Known-step known-thread known-machine are =
       let ls = (code.function).locals in
       let room = are.1.1.1.1.0.0.1 in
-      let wt-m = machine-typed 𝓛 m _ are.1.1.1.1.1.0 in
+      let wt-m = machine_typed 𝓛 m _ are.1.1.1.1.1.0 in
       qed 𝓛 ((together (tokens 5 κs qs) ⊛ together (owners kinds args vals)) ∷ raw (fact 𝓤 (CanTick z ts m)) ∷ []) ∵
       move ! (1 ∷ []) $ heard ! (CanTick z ts m) (λ can.
       let fits : Fits w64 (i * 1640) = record { fits = omega (arith, can.lent, room.1) } in
@@ -140,13 +140,13 @@ module _ {M : Type 1} {𝓤 : Ura M} (𝓛 : Logic 𝓤) (mem : Memory → SProp
       move ! (4 ∷ 10 ∷ []) $ fsplit ! $ drop ! $ fsplit ! $
       -- [obs; the borrow; the token; table; heads; links; schedule; what m owns; the four tokens]
       enter ! 𝓣.C 𝓣.Λ code.function _ _ $ allocated ! _ (λ bs. params1 ! $
-      pass1 ! (init ! 2 refl (slice-typed are.0.0.1.0)) $ pass1 ! (init ! 4 refl (tt, tt)) $
-      pass1 ! (init ! 6 refl (tt, tt)) $ pass1 ! (init ! 8 refl (slice-typed are.1.1.1.0.0.1.0)) $
-      pass1 ! (init ! 10 refl (slice-typed room.0)) $ pass1 ! (init ! 12 refl wt-m) $ pass0 ! $
+      pass1 ! (init ! 2 refl (slice_typed are.0.0.1.0)) $ pass1 ! (init ! 4 refl (tt, tt)) $
+      pass1 ! (init ! 6 refl (tt, tt)) $ pass1 ! (init ! 8 refl (slice_typed are.1.1.1.0.0.1.0)) $
+      pass1 ! (init ! 10 refl (slice_typed room.0)) $ pass1 ! (init ! 12 refl wt-m) $ pass0 ! $
       -- [the locals: 30 entries; obs; the borrow; the token; table; …]
       assigns ! (of_opd ! (load ! (from ! (fld ! {d = 24} refl (stop !)))
       (look_in ! 12 (sub ! 3 {d = 24} refl (whole !))))) (from ! (stop !)) (init ! 14 refl (tt, wt-m.1.1.1.1.0)) $
-      assigns ! (bin ! (reads ! 14 refl) (big-lit ! record { fits = omega arith }) fits) (from ! (stop !))
+      assigns ! (bin ! (reads ! 14 refl) (big_lit ! record { fits = omega arith }) fits) (from ! (stop !))
       (init ! 22 refl (tt, fits)) $
       assigns ! (bin ! (load ! (from ! (fld ! refl (stop !))) (look_in ! 10 (sub ! 0 refl (whole !))))
       (reads ! 22 refl) tt) (from ! (stop !)) (init ! 24 refl (tt, tt)) $
@@ -157,38 +157,38 @@ module _ {M : Type 1} {𝓤 : Ura M} (𝓛 : Logic 𝓤) (mem : Memory → SProp
       (LL.tells T.the_type T'.the_laws) full_share ts i blank b o can.lent (λ is-t.
       -- [the record; what it owns; the others; the open borrow; obs; auth; the locals; table; …]
       assigns ! (of_opd ! (load ! (from ! (hop ! (look ! 30 refl) (stop !))) (look_raw ! 0 refl))) (from ! (stop !))
-      (init ! 32 refl (record-typed 𝓛 t _ is-t)) $
-      assigns ! (of_opd ! (reads ! 32 refl)) (from ! (stop !)) (init ! 22 refl (record-typed 𝓛 t _ is-t)) $
+      (init ! 32 refl (record_typed 𝓛 t _ is-t)) $
+      assigns ! (of_opd ! (reads ! 32 refl)) (from ! (stop !)) (init ! 22 refl (record_typed 𝓛 t _ is-t)) $
       -- `stepped`, to which what the record owns goes
       move ! (36 ∷ 37 ∷ 38 ∷ 39 ∷ 1 ∷ 40 ∷ []) $ pack ! 6 $ move ! (36 ∷ 37 ∷ 38 ∷ 39 ∷ []) $ pack ! 4 $ join ! $
-      called ! 𝓣 Stepped Known-step to_step (asks-that 𝓤 _ can.ready) (and_then ! (reads ! 8 refl)
+      called ! 𝓣 Stepped Known-step to_step (asks_that 𝓤 _ can.ready) (and_then ! (reads ! 8 refl)
       (and_then ! (reads ! 10 refl) (and_then ! (reads ! 12 refl) (and_then ! (reads ! 14 refl)
       (and_then ! (reads ! 22 refl) (and_then ! (reads ! 18 refl) (no_more !)))))))
-      (λ a. (a ≡ tickAs z t m) × Sized a.thread) (λ a ws. id⊢ 𝓤 _) (λ u a is-step is-a.
+      (λ a. (a ≡ tick_as z t m) × Sized a.thread) (λ a ws. id⊢ 𝓤 _) (λ u a is-step is-a.
       -- [what the step owns; the four tokens; the record; the others; the open borrow; obs; auth; the locals]
       land ! (from ! (stop !)) (init ! 25 refl ((LL.lawful S.the_type S'.the_laws 𝓛).typed a _ is-a).0) $
       -- `thread_of`, on a copy of the step
       use1 𝓛 (‵ ((S.the_row).own_val a (u ∷ [])) ⊛ ‵ ((S.the_row).own_val a (u ∷ [])))
       ((LL.copy S.the_type S'.the_copy 𝓛).twice a (u ∷ [])) $ split ! $
-      called ! 𝓣 ThreadOf known-thread (to_part a u) (asks-one 𝓤 _)
+      called ! 𝓣 ThreadOf known-thread (to_part a u) (asks_one 𝓤 _)
       (and_then ! (reads ! 26 refl) (no_more !)) (λ x. x ≡ a.thread) (λ x ws. id⊢ 𝓤 _) (λ v x is-thread is_x.
       -- [what x owns; nothing; what the step owns; the tokens; the record; the others; the open borrow; …; the locals]
-      land ! (from ! (stop !)) (init ! 29 refl (record-typed 𝓛 x v is_x)) $
+      land ! (from ! (stop !)) (init ! 29 refl (record_typed 𝓛 x v is_x)) $
       -- x is stored in the record's place and put into the row, and the records are closed
-      assigns ! (bin ! (reads ! 23 refl) (big-lit ! record { fits = omega arith }) fits) (from ! (stop !))
+      assigns ! (bin ! (reads ! 23 refl) (big_lit ! record { fits = omega arith }) fits) (from ! (stop !))
       (store ! 31 refl (tt, fits)) $
       assigns ! (bin ! (load ! (from ! (fld ! refl (stop !))) (look_in ! 19 (sub ! 0 refl (whole !))))
       (reads ! 31 refl) tt) (from ! (stop !)) (init ! 37 refl (tt, tt)) $
       rewrite ! 37 (λ (k : ℕ). cell (env ls bs) 14 (vptr b k)) (sym (place_is 1640 o i)) refl $
       assigns ! (of_opd ! (reads ! 29 refl)) (from ! (hop ! (look ! 37 refl) (stop !)))
-      (store_raw ! 4 refl (record-typed 𝓛 x v is_x)) $
+      (store_raw ! 4 refl (record_typed 𝓛 x v is_x)) $
       move ! (4 ∷ 0 ∷ 5 ∷ []) $ elem_put ! T.the_row full_share ts i x (v ∷ []) b o can.lent $
       move ! (0 ∷ 4 ∷ 5 ∷ 6 ∷ []) $ closes_slice ! tt T.the_row ts (set ts i x) (length-set ts i x) b o $
       -- [obs; the borrow; the token; nothing; what the step owns; the four tokens; the locals]
-      move ! (4 ∷ []) $ called ! 𝓣 MachineOf known-machine (to_part a u) (asks-one 𝓤 _)
+      move ! (4 ∷ []) $ called ! 𝓣 MachineOf known-machine (to_part a u) (asks_one 𝓤 _)
       (and_then ! (reads ! 24 refl) (no_more !)) (λ n. n ≡ a.machine) (λ n ws. id⊢ 𝓤 _) (λ w n is-machine is-n.
       -- [what the machine owns; nothing; obs; the borrow; the token; nothing; the four tokens; the locals]
-      land ! (from ! (stop !)) (init ! 7 refl (machine-typed 𝓛 n w is-n)) $ returns ! (look ! 7 refl) $
+      land ! (from ! (stop !)) (init ! 7 refl (machine_typed 𝓛 n w is-n)) $ returns ! (look ! 7 refl) $
       move ! (span 7 30) $ freed ! $ freed ! $ freed ! $ freed ! $ freed ! $
       freed ! $ freed ! $ freed ! $ freed ! $ freed ! $ freed ! $ freed ! $ freed ! $ freed ! $ freed ! $ free0 ! $
       suffices ! _ (ends 𝓛 Own bound w n (tt, (tt, (tt, (tt, (set ts i x, (tt, tt))))))) $
@@ -198,16 +198,16 @@ module _ {M : Type 1} {𝓤 : Ura M} (𝓛 : Logic 𝓤) (mem : Memory → SProp
         subst (λ (s : Ticked). Sized s.thread) is-step.0 is-step.1,
       ) $ move ! (6 ∷ []) $ spread ! (tokens 4 κ⁴ q⁴) $ move ! (0 ∷ 1 ∷ 2 ∷ 3 ∷ 8 ∷ []) $ pack ! 5 $ frame ! $ frame ! $
       move ! (1 ∷ []) $ use1 𝓛 (‵ (finally T.the_row γ (set ts i x)))
-      (obs-last 𝓛 T.the_row γ (set ts i x)) $ keep ! (0 ∷ []) $
+      (obs_last 𝓛 T.the_row γ (set ts i x)) $ keep ! (0 ∷ []) $
       by ! (said₆ 𝓛 κs args (set ts i x) (length-set ts i x))))))))
 
-pub tick-spec : {M : Type 1} → stated.statement M
+pub tick_spec : {M : Type 1} → stated.statement M
 unfolding code.routine
-tick-spec 𝓤 𝓛 𝓜 𝓡 =
-    by-walk 𝓛 𝓜 𝓡 code.env (tick.ended, tick.clauses 𝓛 𝓜.mem 𝓡.run) #tick code.function
+tick_spec 𝓤 𝓛 𝓜 𝓡 =
+    by_walk 𝓛 𝓜 𝓡 code.env (tick.ended, tick.clauses 𝓛 𝓜.mem 𝓡.run) #tick code.function
     (code.unfolded 𝓤 𝓛.H 𝓜 𝓡) spelled₆ told₆ (λ κs qs bounds a g are. let rs = a.1.1.1.1.0 in
     walk 𝓛 𝓜.mem 𝓡.run κs qs a.0 a.1.0 a.1.1.0 a.1.1.1.0
-    rs.ref_ptr.0 rs.ref_ptr.1 rs.ghost_name rs.now a.1.1.1.1.1.0 (tablesAt 𝓛 𝓜 𝓡 code.env)
+    rs.ref_ptr.0 rs.ref_ptr.1 rs.ghost_name rs.now a.1.1.1.1.1.0 (tables_at 𝓛 𝓜 𝓡 code.env)
     (cite 𝓛 𝓜 𝓡 code.env code.calls-runner::stepped (stepped-thm.met 𝓤 𝓛 𝓜 𝓡))
     (cite 𝓛 𝓜 𝓡 code.env code.calls-runner::thread-of (thread-of-thm.met 𝓤 𝓛 𝓜 𝓡))
     (cite 𝓛 𝓜 𝓡 code.env code.calls-runner::machine-of (machine-of-thm.met 𝓤 𝓛 𝓜 𝓡)) are)

@@ -46,18 +46,18 @@ use denote.Struct.Struct.{twices}
 use denote.Triple.Entry.{Args, Vals}
 use denote.Triple.Walked.{says}
 use Rattle.links.specs.Lies.{Section}
-use Rattle.runner.specs.Ticks.{sectionOf, tickAs, looked, recordsAfter, machineAfter, Sized, Ticks, start, more}
+use Rattle.runner.specs.Ticks.{section_of, tick_as, looked, records_after, machine_after, Sized, Ticks, start, more}
 use Rattle.runner.specs.Ticks.{left, Steady}
 use Rattle.steps.specs.declared.thread.Thread.{Thread as Record}
 use Rattle.steps.specs.declared.machine.Machine.{Machine}
 use Rattle.steps.specs.contracts.thread.Thread as T
 use Rattle.steps.specs.contracts.machine.Machine as N
 use Rattle.steps.proofs.machine.Machine.TheLaws as N'
-use Rattle.runner.proofs.LendLaws.{ref-at, Slice, Slice-kept, lends_again, comes_back, obs-last}
-use Rattle.runner.proofs.ParamLaws.{machine-typed, spelled₆, told₆, said₆, heard₆}
-use Rattle.runner.proofs.WalkLaws.{Blocks, env, slice-typed, span, locals, cell, owners, tokens, together}
-use Rattle.runner.proofs.WalkLaws.{spread, pack, allocated, freed, reads, asks-that, asks-one, called}
-use Rattle.runner.proofs.WalkLaws.{called-last, Terms, triple, Known, Walk, ends, tablesAt, cite, by-walk}
+use Rattle.runner.proofs.LendLaws.{ref_at, Slice, Slice-kept, lends_again, comes_back, obs_last}
+use Rattle.runner.proofs.ParamLaws.{machine_typed, spelled₆, told₆, said₆, heard₆}
+use Rattle.runner.proofs.WalkLaws.{Blocks, env, slice_typed, span, locals, cell, owners, tokens, together}
+use Rattle.runner.proofs.WalkLaws.{spread, pack, allocated, freed, reads, asks_that, asks_one, called}
+use Rattle.runner.proofs.WalkLaws.{called_last, Terms, triple, Known, Walk, ends, tables_at, cite, by_walk}
 use Rattle.runner.specs.contracts.going as going
 use Rattle.runner.proofs.going.Symbol.{name as #going}
 use Rattle.runner.proofs.going.Met as going-thm
@@ -104,13 +104,13 @@ module _ {M : Type 1} {𝓤 : Ura M} (𝓛 : Logic 𝓤) (mem : Memory → SProp
   Own = (ticks.ended, ticks.clauses 𝓛 mem run)
 
   abbrev z : Section
-  z = sectionOf table.now heads.now links.now schedule.now
+  z = section_of table.now heads.now links.now schedule.now
 
   abbrev At-turn : Type 0
   At-turn = State z ts m
 
-  less-ends : WellFounded (Less z ts m)
-  less-ends = InvImage.wf (λ (t : At-turn). left z t.machine) lt-wf_rel.wf
+  less_ends : WellFounded (Less z ts m)
+  less_ends = InvImage.wf (λ (t : At-turn). left z t.machine) lt-wf_rel.wf
 
   -- the lifetimes and their shares, with κ' and q' for the records
   abbrev lfts : Lft → Lfts 5
@@ -125,7 +125,7 @@ module _ {M : Type 1} {𝓤 : Ura M} (𝓛 : Logic 𝓤) (mem : Memory → SProp
   kinds = types_at (ticks.signature).params (lfts κ)
 
   abbrev args : GName → List Record → Machine → Args ticks.signature (lfts κ)
-  args δ us n = (table, (heads, (links, (schedule, (ref-at b o δ us, (n, tt))))))
+  args δ us n = (table, (heads, (links, (schedule, (ref_at b o δ us, (n, tt))))))
 
   abbrev s : Val
   s = slice_val (b, o) (length ts)
@@ -137,8 +137,8 @@ module _ {M : Type 1} {𝓤 : Ura M} (𝓛 : Logic 𝓤) (mem : Memory → SProp
   abbrev bound : (triple 𝓛 Own).Ghost
   bound = ((lfts κ, shares q, tt, args γ ts m, vals w), tt)
 
-  abbrev to-going : At-turn → (triple 𝓛 Going).Ghost
-  to-going t = ((tt, tt, tt, (t.machine, tt), (t.value ∷ [], tt)), tt)
+  abbrev to_going : At-turn → (triple 𝓛 Going).Ghost
+  to_going t = ((tt, tt, tt, (t.machine, tt), (t.value ∷ [], tt)), tt)
 
   abbrev to_tick : At-turn → ℕ → GName → (triple 𝓛 Tick).Ghost
   to_tick t ν δ = ((lfts (ν ∷ []), shares full_share, tt, args δ t.records t.machine, vals t.value), tt)
@@ -174,8 +174,8 @@ module _ {M : Type 1} {𝓤 : Ura M} (𝓛 : Logic 𝓤) (mem : Memory → SProp
 
   -- what `tick` says of the records vs and the machine k that it leaves, and the state after it
   abbrev Ticked-to : At-turn → List Record → Machine → Type 0
-  Ticked-to t vs k = (vs ≡ recordsAfter z t.records t.machine) × (k ≡ machineAfter z t.records t.machine)
-      × Sized (tickAs z (looked t.records t.machine) t.machine).thread
+  Ticked-to t vs k = (vs ≡ records_after z t.records t.machine) × (k ≡ machine_after z t.records t.machine)
+      × Sized (tick_as z (looked t.records t.machine) t.machine).thread
 
   abbrev next : (t : At-turn) (vs : List Record) (k : Machine) (u : Val) → (t.machine.stage ≡ 2 → ⊥)
       → Ticked-to t vs k → length vs ≡ length t.records → Is N.the_row k (u ∷ []) → At-turn
@@ -213,14 +213,14 @@ module _ {M : Type 1} {𝓤 : Ura M} (𝓛 : Logic 𝓤) (mem : Memory → SProp
       split ! $ spread ! (tokens 5 (lfts κ) (shares q)) $ pack ! 4 $ move ! (2 ∷ []) $
       spread ! (owners kinds (args γ ts m) (vals w)) $ pack ! 4 $ keep ! (1 ∷ 4 ∷ 3 ∷ 0 ∷ []) $
       enter ! 𝓣.C 𝓣.Λ code.function _ _ $ allocated ! _ (λ bs. params1 ! $
-      pass1 ! (init ! 2 refl (slice-typed are.0.0.1.0)) $ pass1 ! (init ! 4 refl (tt, tt)) $
-      pass1 ! (init ! 6 refl (tt, tt)) $ pass1 ! (init ! 8 refl (slice-typed are.1.1.1.0.0.1.0)) $
-      pass1 ! (init ! 10 refl (slice-typed room.0)) $
-      pass1 ! (init ! 12 refl (machine-typed 𝓛 m w is₀)) $ pass0 ! $
-      assigns ! (of_opd ! (reads ! 12 refl)) (from ! (stop !)) (init ! 14 refl (machine-typed 𝓛 m w is₀)) $
-      first ! $ blocks ! $ loops ! 𝓣 (Less z ts m) less-ends (Turn bs) (λ t.
+      pass1 ! (init ! 2 refl (slice_typed are.0.0.1.0)) $ pass1 ! (init ! 4 refl (tt, tt)) $
+      pass1 ! (init ! 6 refl (tt, tt)) $ pass1 ! (init ! 8 refl (slice_typed are.1.1.1.0.0.1.0)) $
+      pass1 ! (init ! 10 refl (slice_typed room.0)) $
+      pass1 ! (init ! 12 refl (machine_typed 𝓛 m w is₀)) $ pass0 ! $
+      assigns ! (of_opd ! (reads ! 12 refl)) (from ! (stop !)) (init ! 14 refl (machine_typed 𝓛 m w is₀)) $
+      first ! $ blocks ! $ loops ! 𝓣 (Less z ts m) less_ends (Turn bs) (λ t.
       owned ! N.the_row (Is N.the_row) made t.machine (t.value ∷ []) t.is $
-      called ! 𝓣 Going known-going (to-going t) (asks-one 𝓤 _) (and_then ! (reads ! 15 refl) (no_more !))
+      called ! 𝓣 Going known-going (to_going t) (asks_one 𝓤 _) (and_then ! (reads ! 15 refl) (no_more !))
       (λ r. r ≡ not (eqb t.machine.stage 2)) (λ r ws. id⊢ 𝓤 _) (λ v r said is. drop ! $ drop ! $
       land ! (from ! (stop !)) (init ! 18 refl ((bool_Lawful 𝓛).typed r _ is).0) $
       either t.machine r said (λ e on.
@@ -230,7 +230,7 @@ module _ {M : Type 1} {𝓤 : Ura M} (𝓛 : Logic 𝓤) (mem : Memory → SProp
       (from ! (stop !)) (init ! 20 refl (tt, tt)) $
       assigns ! (agg ! (and_then ! (reads ! 20 refl)
       (and_then ! (load ! (from ! (fld ! refl (stop !))) (look_in ! 10 (sub ! 1 refl (whole !)))) (no_more !))))
-      (from ! (stop !)) (init ! 22 refl (slice-typed room.0)) $
+      (from ! (stop !)) (init ! 22 refl (slice_typed room.0)) $
       lft_new ! tt (λ ν. move ! (25 ∷ 26 ∷ []) $
       use2 𝓛 (later (some (λ (δ : GName). ‵ (Has (ν ∷ []) δ t.records) ⊛ ‵ (Kept (ν ∷ []) δ t.records))))
       (lends_again T.the_row (named 4) b o (length ts) κ q γ 𝓛 room (ν ∷ []) t.records t.long) $
@@ -241,8 +241,8 @@ module _ {M : Type 1} {𝓤 : Ura M} (𝓛 : Logic 𝓤) (mem : Memory → SProp
       -- locals; the four tokens]
       move ! (1 ∷ 2 ∷ 3 ∷ 4 ∷ 6 ∷ 0 ∷ []) $ pack ! 6 $ move ! (28 ∷ []) $ spread ! (tokens 4 κ⁴ q⁴) $
       move ! (0 ∷ 1 ∷ 2 ∷ 3 ∷ 7 ∷ []) $ pack ! 5 $ join ! $
-      called-last ! 𝓣 Tick known-tick (to_tick t ν δ)
-      (asks-that 𝓤 _ (steady t.records t.machine t.ticked on).0)
+      called_last ! 𝓣 Tick known-tick (to_tick t ν δ)
+      (asks_that 𝓤 _ (steady t.records t.machine t.ticked on).0)
       (and_then ! (reads ! 5 refl) (and_then ! (reads ! 7 refl) (and_then ! (reads ! 9 refl)
       (and_then ! (reads ! 11 refl) (and_then ! (reads ! 25 refl) (and_then ! (reads ! 17 refl) (no_more !)))))))
       (λ k ws. Ticked-to t ws.1.1.1.1.0 k) (λ k ws. id⊢ 𝓤 _) (λ u k ws to is'. let vs = ws.1.1.1.1.0 in
@@ -253,9 +253,9 @@ module _ {M : Type 1} {𝓤 : Ura M} (𝓛 : Logic 𝓤) (mem : Memory → SProp
       (comes_back T.the_row (named 4) b o (length ts) κ q γ 𝓛 room (ν ∷ []) t.records t.long δ vs l) $
       await ! tt $ split ! $
       -- [what the records own; their token; the four tokens; what the four own; the locals]
-      land ! (from ! (stop !)) (init ! 20 refl (machine-typed 𝓛 k u is')) $
+      land ! (from ! (stop !)) (init ! 20 refl (machine_typed 𝓛 k u is')) $
       assigns_last ! (of_opd ! (reads ! 20 refl)) (from ! (stop !))
-      (store ! 18 refl (machine-typed 𝓛 k u is')) $
+      (store ! 18 refl (machine_typed 𝓛 k u is')) $
       forget ! 20 refl $ forget ! 22 refl $ forget ! 24 refl $ forget ! 26 refl $ move ! (span 4 24) $
       again ! (Less z ts m) (Turn bs) t (next t vs k u on to l is')
       (subst (λ (n : Machine). left z n < left z t.machine) (sym to.1)
@@ -265,26 +265,26 @@ module _ {M : Type 1} {𝓤 : Ura M} (𝓛 : Logic 𝓤) (mem : Memory → SProp
       exec ! 𝓣.C 𝓣.Λ (env ls bs) (seq (assign (place 0 []) (rv_opd (copy (place 7 [])))) return)
       (at_ret (env ls bs) ((triple 𝓛 Own).post bound)) $
       assigns ! (of_opd ! (reads ! 14 refl)) (from ! (stop !))
-      (init ! 0 refl (machine-typed 𝓛 t.machine t.value t.is)) $ returns ! (look ! 0 refl) $
+      (init ! 0 refl (machine_typed 𝓛 t.machine t.value t.is)) $ returns ! (look ! 0 refl) $
       freed ! $ freed ! $ freed ! $ freed ! $ freed ! $ freed ! $ freed ! $ freed ! $ free1 ! $ freed ! $
       free1 ! $ free1 ! $ free0 ! $
       suffices ! _ (ends 𝓛 Own bound t.value t.machine
       (tt, (tt, (tt, (tt, (t.records, (tt, tt))))))) $ says ! (t.ticked, over) $
       move ! (2 ∷ []) $ spread ! (tokens 4 κ⁴ q⁴) $ move ! (0 ∷ 1 ∷ 2 ∷ 3 ∷ 5 ∷ []) $ pack ! 5 $ frame ! $
       owned ! N.the_row (Is N.the_row) made t.machine (t.value ∷ []) t.is $ frame ! $ fsplit ! $ drop ! $
-      fsplit ! $ use1 𝓛 (‵ (finally T.the_row γ t.records)) (obs-last 𝓛 T.the_row γ t.records) $
+      fsplit ! $ use1 𝓛 (‵ (finally T.the_row γ t.records)) (obs_last 𝓛 T.the_row γ t.records) $
       keep ! (0 ∷ []) $ by ! (said₆ 𝓛 (lfts κ) (args γ ts m) t.records t.long))))
       record { records = ts; machine = m; value = w; is = is₀; ticked = start; long = refl }))
 
-pub ticks-spec : {M : Type 1} → stated.statement M
+pub ticks_spec : {M : Type 1} → stated.statement M
 unfolding code.routine
-ticks-spec 𝓤 𝓛 𝓜 𝓡 =
-    by-walk 𝓛 𝓜 𝓡 code.env (ticks.ended, ticks.clauses 𝓛 𝓜.mem 𝓡.run) #ticks code.function
+ticks_spec 𝓤 𝓛 𝓜 𝓡 =
+    by_walk 𝓛 𝓜 𝓡 code.env (ticks.ended, ticks.clauses 𝓛 𝓜.mem 𝓡.run) #ticks code.function
     (code.unfolded 𝓤 𝓛.H 𝓜 𝓡) spelled₆ told₆ (λ κs qs bounds a g are. let rs = a.1.1.1.1.0 in
     walk 𝓛 𝓜.mem 𝓡.run
     (κs.0, (κs.1.0, (κs.1.1.0, (κs.1.1.1.0, tt)))) κs.1.1.1.1.0
     (qs.0, (qs.1.0, (qs.1.1.0, (qs.1.1.1.0, tt)))) qs.1.1.1.1.0 a.0 a.1.0 a.1.1.0
     a.1.1.1.0 rs.ref_ptr.0 rs.ref_ptr.1 rs.ghost_name rs.now a.1.1.1.1.1.0
-    (LL.val N.the_type N'.the_laws a.1.1.1.1.1.0) (tablesAt 𝓛 𝓜 𝓡 code.env)
+    (LL.val N.the_type N'.the_laws a.1.1.1.1.1.0) (tables_at 𝓛 𝓜 𝓡 code.env)
     (cite 𝓛 𝓜 𝓡 code.env code.calls-runner::going (going-thm.met 𝓤 𝓛 𝓜 𝓡))
     (cite 𝓛 𝓜 𝓡 code.env code.calls-runner::tick (tick-thm.met 𝓤 𝓛 𝓜 𝓡)) are)

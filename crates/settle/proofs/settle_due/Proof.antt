@@ -5,10 +5,10 @@ use native.Mathlib.Omega.{arith}
 use Prim.Native.Nat.{◌-◌, ◌*◌, ◌%◌, ◌^◌}
 use lib.ListN.{get_or}
 use lib.Bits.{or_add_and}
-use Rattle.settle.proofs.LoopLaws.{Going, few-routines, going_start, listed, starts-there, row-ready}
-use Rattle.settle.proofs.LoopLaws.{taken-off}
-use Rattle.settle.proofs.LoopLaws.{turn-changed, turn-same, less_then, less-else, all_done}
-use Rattle.settle.proofs.LoopLaws.{size-left, masks-fit}
+use Rattle.settle.proofs.LoopLaws.{Going, few_routines, going_start, listed, starts_there, row_ready}
+use Rattle.settle.proofs.LoopLaws.{taken_off}
+use Rattle.settle.proofs.LoopLaws.{turn_changed, turn_same, less_then, less_else, all_done}
+use Rattle.settle.proofs.LoopLaws.{size_left, masks_fit}
 use borrow.Author.Rules.{rules}
 use Rattle.settle.proofs.settle_due.Statement.{statement}
 use Rattle.settle.proofs.settle_due.Tie as tie
@@ -18,7 +18,7 @@ invariant-loop ks s starts callers mask model₀ names₀ left₀ last₀ model 
     Going ks s starts callers mask model₀ model names left last
 
 abbrev decreases-loop : tie.decreases-loop
-decreases-loop ks s starts callers mask model₀ names₀ left₀ last₀ model names left last = size-left model left
+decreases-loop ks s starts callers mask model₀ names₀ left₀ last₀ model names left last = size_left model left
 
 loop-holds : tie.Need-loop-init invariant-loop decreases-loop
 loop-holds c =
@@ -35,7 +35,7 @@ shl-left c =
     let p = c.before.before.before.before.before.before.before.requires in
     let l = c.before.before.loop in
     let d = c.next-due in
-    let f = few-routines a.ks.now a.s.now a.starts.now a.callers.now a.mask a.model.now p in
+    let f = few_routines a.ks.now a.s.now a.starts.now a.callers.now a.mask a.model.now p in
     let b = listed a.ks.now a.s.now a.starts.now a.callers.now a.mask a.model.now
     l.model l.names l.left l.last d.result l.invariant d.ensures in
     omega arith
@@ -46,8 +46,8 @@ sub-left c =
     let p = c.before.before.before.before.before.before.before.requires in
     let l = c.before.before.loop in
     let d = c.next-due in
-    let f = few-routines a.ks.now a.s.now a.starts.now a.callers.now a.mask a.model.now p in
-    taken-off a.ks.now a.s.now a.starts.now a.callers.now a.mask a.model.now
+    let f = few_routines a.ks.now a.s.now a.starts.now a.callers.now a.mask a.model.now p in
+    taken_off a.ks.now a.s.now a.starts.now a.callers.now a.mask a.model.now
     l.model l.names l.left l.last d.result l.invariant d.ensures f
 
 mul-improve : tie.Need-overflow-mul-improve invariant-loop decreases-loop
@@ -56,7 +56,7 @@ mul-improve c =
     let p = c.before.before.before.before.before.before.before.requires in
     let l = c.before.before.loop in
     let d = c.next-due in
-    let b = starts-there a.ks.now a.s.now a.starts.now a.callers.now a.mask a.model.now
+    let b = starts_there a.ks.now a.s.now a.starts.now a.callers.now a.mask a.model.now
     l.model l.names l.left l.last d.result l.invariant d.ensures p in
     search rules
 
@@ -66,7 +66,7 @@ shared-slice-read-improve c =
     let p = c.before.before.before.before.before.before.before.before.requires in
     let l = c.before.before.before.loop in
     let d = c.before.next-due in
-    starts-there a.ks.now a.s.now a.starts.now a.callers.now a.mask a.model.now
+    starts_there a.ks.now a.s.now a.starts.now a.callers.now a.mask a.model.now
     l.model l.names l.left l.last d.result l.invariant d.ensures p
 
 improve-requires : tie.Need-improve-requires invariant-loop decreases-loop
@@ -75,7 +75,7 @@ improve-requires c κs =
     let p = c.before.before.before.before.before.before.before.before.before.requires in
     let l = c.before.before.before.before.loop in
     let d = c.before.before.next-due in
-    row-ready a.ks.now a.s.now a.starts.now a.callers.now a.mask a.model.now
+    row_ready a.ks.now a.s.now a.starts.now a.callers.now a.mask a.model.now
     l.model l.names l.left l.last d.result l.invariant d.ensures p
 
 array-write-names : tie.Need-array-write-names invariant-loop decreases-loop
@@ -84,10 +84,10 @@ array-write-names c =
     let p = c.before.before.before.before.before.before.before.before.before.before.before.before.requires in
     let l = c.before.before.before.before.before.before.before.loop in
     let d = c.before.before.before.before.before.next-due in
-    let f = few-routines a.ks.now a.s.now a.starts.now a.callers.now a.mask a.model.now p in
+    let f = few_routines a.ks.now a.s.now a.starts.now a.callers.now a.mask a.model.now p in
     let b = listed a.ks.now a.s.now a.starts.now a.callers.now a.mask a.model.now
     l.model l.names l.left l.last d.result l.invariant d.ensures in
-    let e = l.invariant.names-long in
+    let e = l.invariant.names_long in
     omega arith
 
 mul_left : tie.Need-overflow-mul-left invariant-loop decreases-loop
@@ -96,7 +96,7 @@ mul_left c =
     let p = c.before.before.before.before.before.before.before.before.before.before.before.before.before.requires in
     let l = c.before.before.before.before.before.before.before.before.loop in
     let d = c.before.before.before.before.before.before.next-due in
-    let f = few-routines a.ks.now a.s.now a.starts.now a.callers.now a.mask a.model.now p in
+    let f = few_routines a.ks.now a.s.now a.starts.now a.callers.now a.mask a.model.now p in
     let b = listed a.ks.now a.s.now a.starts.now a.callers.now a.mask a.model.now
     l.model l.names l.left l.last d.result l.invariant d.ensures in
     search rules
@@ -107,7 +107,7 @@ element-copy-out-left c =
     let p = c.before.before.before.before.before.before.before.before.before.before.before.before.before.requires in
     let l = c.before.before.before.before.before.before.before.before.loop in
     let d = c.before.before.before.before.before.before.next-due in
-    let f = few-routines a.ks.now a.s.now a.starts.now a.callers.now a.mask a.model.now p in
+    let f = few_routines a.ks.now a.s.now a.starts.now a.callers.now a.mask a.model.now p in
     let b = listed a.ks.now a.s.now a.starts.now a.callers.now a.mask a.model.now
     l.model l.names l.left l.last d.result l.invariant d.ensures in
     omega arith
@@ -119,8 +119,8 @@ loop-less c =
     let l = c.before.before.before.before.before.before.before.before.before.loop in
     let d = c.before.before.before.before.before.before.before.next-due in
     let w = c.before.before.before.before.improve in
-    let f = few-routines a.ks.now a.s.now a.starts.now a.callers.now a.mask a.model.now p in
-    let b = masks-fit a.ks.now a.s.now a.starts.now a.callers.now a.mask a.model.now
+    let f = few_routines a.ks.now a.s.now a.starts.now a.callers.now a.mask a.model.now p in
+    let b = masks_fit a.ks.now a.s.now a.starts.now a.callers.now a.mask a.model.now
     l.model l.names l.left l.last d.result l.invariant d.ensures f p in
     less_then a.ks.now a.s.now a.starts.now a.callers.now a.mask a.model.now
     l.model l.names l.left l.last d.result l.invariant d.ensures f
@@ -140,8 +140,8 @@ loop-again c =
     let l = c.before.before.before.before.before.before.before.before.before.loop in
     let d = c.before.before.before.before.before.before.before.next-due in
     let w = c.before.before.before.before.improve in
-    let f = few-routines a.ks.now a.s.now a.starts.now a.callers.now a.mask a.model.now p in
-    turn-changed a.ks.now a.s.now a.starts.now a.callers.now a.mask a.model.now
+    let f = few_routines a.ks.now a.s.now a.starts.now a.callers.now a.mask a.model.now p in
+    turn_changed a.ks.now a.s.now a.starts.now a.callers.now a.mask a.model.now
     l.model l.names l.left l.last d.result l.invariant d.ensures f
     w.new.1.1.1.1.0 w.result.cells w.result.last w.result.name w.ensures
     w.auto.1.1.1.1.0 p
@@ -153,8 +153,8 @@ loop-less-2 c =
     let l = c.before.before.before.before.before.before.before.before.loop in
     let d = c.before.before.before.before.before.before.next-due in
     let w = c.before.before.before.improve in
-    let f = few-routines a.ks.now a.s.now a.starts.now a.callers.now a.mask a.model.now p in
-    less-else a.ks.now a.s.now a.starts.now a.callers.now a.mask a.model.now
+    let f = few_routines a.ks.now a.s.now a.starts.now a.callers.now a.mask a.model.now p in
+    less_else a.ks.now a.s.now a.starts.now a.callers.now a.mask a.model.now
     l.model l.names l.left l.last d.result l.invariant d.ensures f
     w.new.1.1.1.1.0 w.result.cells w.result.last w.result.name w.ensures
     w.auto.1.1.1.1.0 p c.if1.false (λ i. omega (arith, c.before.slice-known2.given i))
@@ -166,8 +166,8 @@ loop-again-2 c =
     let l = c.before.before.before.before.before.before.before.before.loop in
     let d = c.before.before.before.before.before.before.next-due in
     let w = c.before.before.before.improve in
-    let f = few-routines a.ks.now a.s.now a.starts.now a.callers.now a.mask a.model.now p in
-    turn-same a.ks.now a.s.now a.starts.now a.callers.now a.mask a.model.now
+    let f = few_routines a.ks.now a.s.now a.starts.now a.callers.now a.mask a.model.now p in
+    turn_same a.ks.now a.s.now a.starts.now a.callers.now a.mask a.model.now
     l.model l.names l.left l.last d.result l.invariant d.ensures f
     w.new.1.1.1.1.0 w.result.cells w.result.last w.result.name w.ensures
     w.auto.1.1.1.1.0 p c.if1.false
@@ -183,8 +183,8 @@ returns c =
     all_done a.ks.now a.s.now a.starts.now a.callers.now a.mask a.model.now
     l.model l.names l.left l.last (omega arith) l.invariant
 
-pub settle-due-spec : {M : Type 1} → statement M
-settle-due-spec =
+pub settle_due_spec : {M : Type 1} → statement M
+settle_due_spec =
     tie.close
     (tie.spec
     invariant-loop

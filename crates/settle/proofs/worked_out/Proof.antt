@@ -1,7 +1,7 @@
 -- `worked_out` meets its contract: the walk records the body's pairs in an empty grid, and the closing composes them.
 use native.Mathlib.Omega.{arith}
-use Rattle.table.specs.laws.Sections.{routines}
-use Rattle.settle.proofs.WorkLaws.{can-record, can-close, works}
+use Rattle.table.specs.Laws.Sections.{routines}
+use Rattle.settle.proofs.WorkLaws.{can_record, can_close, works}
 use borrow.Author.Rules.{rules}
 use Rattle.settle.proofs.worked_out.Statement.{statement}
 use Rattle.settle.proofs.worked_out.Tie as tie
@@ -23,7 +23,7 @@ recorded-requires c κs =
     let emptied = c.before in
     let start = emptied.before.before.before.before in
     let a = start.args in
-    let r = can-record a.ks.now a.s.now a.at a.r a.rows.now start.requires in
+    let r = can_record a.ks.now a.s.now a.at a.r a.rows.now start.requires in
     (r.0, r.1, emptied.empty.ensures.small)
 
 close-requires : tie.Need-close-requires
@@ -31,7 +31,7 @@ close-requires c κs =
     let emptied = c.before.before in
     let start = emptied.before.before.before.before in
     let a = start.args in
-    can-close a.ks.now a.s.now a.at a.r a.rows.now emptied.empty.result c.recorded.result
+    can_close a.ks.now a.s.now a.at a.r a.rows.now emptied.empty.result c.recorded.result
     start.requires emptied.empty.ensures c.recorded.ensures
 
 returns : tie.Need-returns
@@ -43,7 +43,7 @@ returns c =
     works a.ks.now a.s.now a.at a.r a.rows.now e.result g.result c.close.result
     e.ensures g.ensures c.close.ensures
 
-pub worked-out-spec : {M : Type 1} → statement M
-worked-out-spec =
+pub worked_out_spec : {M : Type 1} → statement M
+worked_out_spec =
     tie.close
     (tie.spec empty-requires shared-slice-read-recorded recorded-requires close-requires returns)

@@ -11,5 +11,5 @@ over-requires c κs = search rules
 returns : tie.Need-returns
 returns c = ap (pair c.before.args.t) c.over.ensures
 
-pub beyond-spec : {M : Type 1} → statement M
-beyond-spec = tie.close (tie.spec over-requires returns)
+pub beyond_spec : {M : Type 1} → statement M
+beyond_spec = tie.close (tie.spec over-requires returns)

@@ -1,5 +1,5 @@
 -- `call` meets its contract, by whether the frames are full.
-use Rattle.steps.proofs.Steps.{room-left, call-beyond, call-is}
+use Rattle.steps.proofs.Steps.{room_left, call-beyond, call-is}
 use mathlib.Core.Path.{sym, ◌∙◌}
 use borrow.Author.Rules.{rules}
 use Rattle.steps.proofs.call.Statement.{statement}
@@ -58,7 +58,7 @@ called-requires c κs =
     let room = r.before.before in
     let f = room.before in
     let a = (begun f).args in (
-      room-left a.m.pick a.t.depth f.full.result f.full.ensures room.if1.false,
+      room_left a.m.pick a.t.depth f.full.result f.full.ensures room.if1.false,
       rw (c.before.size2.ensures.0, r.size.ensures.0) (begun f).requires.passes,
     )
 
@@ -83,8 +83,8 @@ returns-2 c =
     r.size.result k.size2.result c.done.result f.full.ensures room.if1.false r.size.ensures.0
     k.size2.ensures.0 called.ensures c.done.ensures
 
-pub call-spec : {M : Type 1} → statement M
-call-spec =
+pub call_spec : {M : Type 1} → statement M
+call_spec =
     tie.close
     (tie.spec
     full-requires

@@ -1,8 +1,8 @@
 -- `choice` meets its contract, by whether the frames are full.
-use Rattle.steps.proofs.Steps.{goes-as, room-left, choice-beyond, choice-is}
+use Rattle.steps.proofs.Steps.{goes_as, room_left, choice-beyond, choice-is}
 use mathlib.Core.Path.{refl, sym, ◌∙◌}
-use Rattle.schedule.specs.Limits.{most-locks}
-use Rattle.steps.specs.Records.{enteredAs}
+use Rattle.schedule.specs.Limits.{most_locks}
+use Rattle.steps.specs.Records.{entered_as}
 use borrow.Author.Rules.{rules}
 use Rattle.steps.proofs.choice.Statement.{statement}
 use Rattle.steps.proofs.choice.Tie as tie
@@ -34,13 +34,13 @@ entered-requires : tie.Need-entered-requires
 entered-requires c κs =
     let f = c.before in
     let a = (begun f).args in
-    room-left a.m.pick a.t.depth f.full.result f.full.ensures c.if1.false
+    room_left a.m.pick a.t.depth f.full.result f.full.ensures c.if1.false
 
 done-requires : tie.Need-done-requires
 done-requires c κs =
     let f = c.before.before in
     let a = (begun f).args in
-    goes-as a.s.now c.entered.result (enteredAs a.t most-locks a.to) a.m a.m c.entered.ensures
+    goes_as a.s.now c.entered.result (entered_as a.t most_locks a.to) a.m a.m c.entered.ensures
     refl ((begun f).requires.1 (sym f.full.ensures ∙ c.before.if1.false))
 
 returns-2 : tie.Need-returns-2
@@ -52,7 +52,7 @@ returns-2 c =
     choice-is a.s.now a.schedule.now a.to a.t entered.result a.m f.full.result c.done.result
     f.full.ensures room.if1.false entered.ensures c.done.ensures
 
-pub choice-spec : {M : Type 1} → statement M
-choice-spec =
+pub choice_spec : {M : Type 1} → statement M
+choice_spec =
     tie.close
     (tie.spec full-requires beyond-requires returns entered-requires done-requires returns-2)

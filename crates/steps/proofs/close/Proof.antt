@@ -1,10 +1,10 @@
 -- `close` meets its contract, by what the innermost frame is: a call, an alternative or a hold.
-use Rattle.steps.proofs.Steps.{goes-as, held_below, close-call, close-alternative, close-held}
+use Rattle.steps.proofs.Steps.{goes_as, held_below, close-call, close-alternative, close-held}
 use mathlib.Core.Path.{refl, sym, ap, ◌∙◌}
 use Prim.Native.Nat.{◌+◌, ◌-◌}
 use lib.ListN.{get_or}
-use Rattle.steps.specs.Records.{leftTo}
-use Rattle.steps.specs.Machines.{givenBack}
+use Rattle.steps.specs.Records.{left_to}
+use Rattle.steps.specs.Machines.{given_back}
 use Rattle.steps.specs.Steps.{top_of}
 use borrow.Author.Rules.{rules}
 use Rattle.steps.proofs.close.Statement.{statement}
@@ -34,8 +34,8 @@ done-requires c κs =
     let going = c.before.before in
     let k = going.before in
     let a = (begun k).args in
-    goes-as a.s.now c.left.result (leftTo a.t (get_or a.t.goes (a.t.depth - 1) 0)) a.m a.m
-    (c.left.ensures ∙ ap (leftTo a.t) c.before.top-goes.ensures) refl
+    goes_as a.s.now c.left.result (left_to a.t (get_or a.t.goes (a.t.depth - 1) 0)) a.m a.m
+    (c.left.ensures ∙ ap (left_to a.t) c.before.top-goes.ensures) refl
     ((begun k).requires.returns (sym k.top-kind.ensures ∙ going.if1.true))
 
 returns : tie.Need-returns
@@ -59,7 +59,7 @@ done-requires-2 c κs =
     let l = c.before in
     let k = l.before.before.before in
     let a = (begun k).args in
-    goes-as a.s.now l.left2.result (leftTo a.t (a.t.at + 1)) a.m a.m l.left2.ensures refl
+    goes_as a.s.now l.left2.result (left_to a.t (a.t.at + 1)) a.m a.m l.left2.ensures refl
     ((begun k).requires.after (sym k.top-kind.ensures ∙ c.if2.true))
 
 returns-2 : tie.Need-returns-2
@@ -91,9 +91,9 @@ done-requires-3 c κs =
     let a = i.args in
     let k = going.before.top-kind.ensures in
     let h = held_below _ _ k going.if1.false c.before.before.if2.false i.pre.known in
-    goes-as a.s.now l.left2.result (leftTo a.t (a.t.at + 1)) c.given.result
-    (givenBack a.m (top_of a.t)) l.left2.ensures
-    (c.given.ensures ∙ ap (givenBack a.m) (c.before.size.ensures.0 ∙ k)) (i.pre.held h).1
+    goes_as a.s.now l.left2.result (left_to a.t (a.t.at + 1)) c.given.result
+    (given_back a.m (top_of a.t)) l.left2.ensures
+    (c.given.ensures ∙ ap (given_back a.m) (c.before.size.ensures.0 ∙ k)) (i.pre.held h).1
 
 returns-3 : tie.Need-returns-3
 returns-3 c =

@@ -1,5 +1,5 @@
 -- `done` meets its contract: the turn is counted, the want written and the machine settled.
-use Rattle.steps.proofs.Steps.{wanting-counted, wanting-set, done-is}
+use Rattle.steps.proofs.Steps.{wanting_counted, wanting_set, done-is}
 use borrow.Author.Rules.{rules}
 use Rattle.steps.proofs.done.Statement.{statement}
 use Rattle.steps.proofs.done.Tie as tie
@@ -30,8 +30,8 @@ settled-requires c κs =
     let p = (begun w).requires in
     let m = (begun w).args.m in
     let e = w.want.ensures in
-    wanting-set counted.result c.wanting.result m.pick w.want.result c.wanting.ensures
-    (rw e p.wants) (wanting-counted m counted.result counted.ensures p.counts.wanting)
+    wanting_set counted.result c.wanting.result m.pick w.want.result c.wanting.ensures
+    (rw e p.wants) (wanting_counted m counted.result counted.ensures p.counts.wanting)
 
 returns : tie.Need-returns
 returns c =
@@ -42,6 +42,6 @@ returns c =
     done-is a.s.now a.schedule.now a.u a.m n.counted.result wanting.result c.settled.result
     w.want.result w.want.ensures n.counted.ensures wanting.ensures c.settled.ensures
 
-pub done-spec : {M : Type 1} → statement M
-done-spec =
+pub done_spec : {M : Type 1} → statement M
+done_spec =
     tie.close (tie.spec want-requires counted-requires wanting-requires settled-requires returns)

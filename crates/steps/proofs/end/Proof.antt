@@ -1,5 +1,5 @@
 -- `end` meets its contract, by whether the thread has a frame.
-use Rattle.steps.proofs.Steps.{wanting-counted, wanting-set, end-last, end_more}
+use Rattle.steps.proofs.Steps.{wanting_counted, wanting_set, end-last, end_more}
 use native.Mathlib.Omega.{arith}
 use borrow.Author.Rules.{rules}
 use Rattle.steps.proofs.end.Statement.{statement}
@@ -26,8 +26,8 @@ settled-requires c κs =
     let counted = c.before.counted in
     let i = begun c.before in
     let a = i.args in
-    wanting-set counted.result c.wanting.result a.m.pick 65 c.wanting.ensures (omega arith)
-    (wanting-counted a.m counted.result counted.ensures i.pre.0.wanting)
+    wanting_set counted.result c.wanting.result a.m.pick 65 c.wanting.ensures (omega arith)
+    (wanting_counted a.m counted.result counted.ensures i.pre.0.wanting)
 
 finished-requires : tie.Need-finished-requires
 finished-requires c κs = search rules
@@ -53,8 +53,8 @@ returns-2 c =
     let a = more.before.before.before.args in
     end_more a.s.now a.schedule.now a.t a.m c.close.result (search rules) c.close.ensures
 
-pub end-spec : {M : Type 1} → statement M
-end-spec =
+pub end_spec : {M : Type 1} → statement M
+end_spec =
     tie.close
     (tie.spec
     counted-requires

@@ -1,5 +1,5 @@
 -- `fork` meets its contract, by whether a further thread may start.
-use Rattle.steps.proofs.Steps.{not-crowded, fork-beyond, fork-is}
+use Rattle.steps.proofs.Steps.{not_crowded, fork-beyond, fork-is}
 use borrow.Author.Rules.{rules}
 use Rattle.steps.proofs.fork.Statement.{statement}
 use Rattle.steps.proofs.fork.Tie as tie
@@ -58,7 +58,7 @@ starting-requires c κs =
     let r = room_at w in
     let q = r.before.crowded in
     rw (w.wanting.ensures, w.before.before.counted.ensures)
-    (not-crowded (begun r).args.m q.result q.ensures r.if1.left)
+    (not_crowded (begun r).args.m q.result q.ensures r.if1.left)
 
 moved-requires : tie.Need-moved-requires
 moved-requires c κs = search rules
@@ -79,8 +79,8 @@ returns-2 c =
     counted.ensures want.ensures w.wanting.ensures n.names_of.ensures want2.ensures starting.ensures
     c.moved.ensures
 
-pub fork-spec : {M : Type 1} → statement M
-fork-spec =
+pub fork_spec : {M : Type 1} → statement M
+fork_spec =
     tie.close
     (tie.spec
     crowded-requires

@@ -1,5 +1,5 @@
 -- `idle` meets its contract: the turn is counted and the machine settled.
-use Rattle.steps.proofs.Steps.{wanting-counted, idle-is}
+use Rattle.steps.proofs.Steps.{wanting_counted, idle-is}
 use borrow.Author.Rules.{rules}
 use Rattle.steps.proofs.idle.Statement.{statement}
 use Rattle.steps.proofs.idle.Tie as tie
@@ -10,7 +10,7 @@ counted-requires c κs = search rules
 settled-requires : tie.Need-settled-requires
 settled-requires c κs =
     let i = c.before.before in
-    wanting-counted i.args.m c.counted.result c.counted.ensures i.requires.wanting
+    wanting_counted i.args.m c.counted.result c.counted.ensures i.requires.wanting
 
 returns : tie.Need-returns
 returns c =

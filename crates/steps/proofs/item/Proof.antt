@@ -2,8 +2,8 @@
 use mathlib.Core.Path.{refl, ◌∙◌}
 use lib.ListN.{get_or}
 use borrow.Author.Rules.{rules}
-use Rattle.steps.proofs.Steps.{item-end, item-new, item-lock, item-fork, item-choice, item-call, item-mirror}
-use Rattle.steps.proofs.Steps.{item-other, is-other}
+use Rattle.steps.proofs.Steps.{item_end, item_new, item_lock, item_fork, item_choice, item_call, item_mirror}
+use Rattle.steps.proofs.Steps.{item_other, is-other}
 use Rattle.steps.proofs.item.Statement.{statement}
 use Rattle.steps.proofs.item.Tie as tie
 
@@ -73,28 +73,28 @@ returns : tie.Need-returns
 returns c =
     let a = (begun c.before.before).args in
     c.end.ensures
-    ∙ item-end a.ks.now a.s.now a.heads.now a.links.now a.schedule.now a.t a.m
+    ∙ item_end a.ks.now a.s.now a.heads.now a.links.now a.schedule.now a.t a.m
     (get_or a.s.now a.t.at 0) (search rules)
 
 returns-2 : tie.Need-returns-2
 returns-2 c =
     let a = (begun c.before.before).args in
     c.new.ensures
-    ∙ item-new a.ks.now a.s.now a.heads.now a.links.now a.schedule.now a.t a.m
+    ∙ item_new a.ks.now a.s.now a.heads.now a.links.now a.schedule.now a.t a.m
     (get_or a.s.now a.t.at 0) (search rules)
 
 returns-3 : tie.Need-returns-3
 returns-3 c =
     let a = (begun c.before.before.before).args in
     c.lock.ensures ∙ rw c.before.operand.ensures refl
-    ∙ item-lock a.ks.now a.s.now a.heads.now a.links.now a.schedule.now a.t a.m
+    ∙ item_lock a.ks.now a.s.now a.heads.now a.links.now a.schedule.now a.t a.m
     (get_or a.s.now a.t.at 0) (search rules)
 
 returns-4 : tie.Need-returns-4
 returns-4 c =
     let a = (begun c.before.before).args in
     c.fork.ensures
-    ∙ item-fork a.ks.now a.s.now a.heads.now a.links.now a.schedule.now a.t a.m
+    ∙ item_fork a.ks.now a.s.now a.heads.now a.links.now a.schedule.now a.t a.m
     (get_or a.s.now a.t.at 0) (search rules)
 
 returns-5 : tie.Need-returns-5
@@ -102,21 +102,21 @@ returns-5 c =
     let chosen = c.before in
     let a = (begun chosen.before.before.before).args in
     c.choice.ensures ∙ rw chosen.side.ensures refl
-    ∙ item-choice a.ks.now a.s.now a.heads.now a.links.now a.schedule.now a.t a.m
+    ∙ item_choice a.ks.now a.s.now a.heads.now a.links.now a.schedule.now a.t a.m
     (get_or a.s.now a.t.at 0) (search rules)
 
 returns-6 : tie.Need-returns-6
 returns-6 c =
     let a = (begun c.before.before).args in
     c.call.ensures
-    ∙ item-call a.ks.now a.s.now a.heads.now a.links.now a.schedule.now a.t a.m
+    ∙ item_call a.ks.now a.s.now a.heads.now a.links.now a.schedule.now a.t a.m
     (get_or a.s.now a.t.at 0) (search rules)
 
 returns-7 : tie.Need-returns-7
 returns-7 c =
     let a = (begun c.before.before.before).args in
     c.mirror.ensures ∙ rw c.before.operand2.ensures refl
-    ∙ item-mirror a.ks.now a.s.now a.heads.now a.links.now a.schedule.now a.t a.m
+    ∙ item_mirror a.ks.now a.s.now a.heads.now a.links.now a.schedule.now a.t a.m
     (get_or a.s.now a.t.at 0) (search rules)
 
 returns-8 : tie.Need-returns-8
@@ -125,13 +125,13 @@ returns-8 c =
     let a = i.args in
     let r = c.before.match.rest in
     c.other.ensures
-    ∙ item-other a.ks.now a.s.now a.heads.now a.links.now a.schedule.now a.t a.m
+    ∙ item_other a.ks.now a.s.now a.heads.now a.links.now a.schedule.now a.t a.m
     (get_or a.s.now a.t.at 0)
     (is-other (get_or a.s.now a.t.at 0) i.pre.known r.0.0.0.0.0.0.1 r.0.0.0.0.0.1
     r.0.0.0.0.1 r.0.0.0.1 r.0.0.1 r.0.1 r.1)
 
-pub item-spec : {M : Type 1} → statement M
-item-spec =
+pub item_spec : {M : Type 1} → statement M
+item_spec =
     tie.close
     (tie.spec
     mul-link

@@ -1,9 +1,9 @@
 -- `lock` meets its contract, by the cases of the lock that is waited for and of the frames that are full.
-use Rattle.steps.proofs.Steps.{goes-as, room-left, lock-waits, lock-beyond, lock-is}
+use Rattle.steps.proofs.Steps.{goes_as, room_left, lock-waits, lock-beyond, lock-is}
 use mathlib.Core.Path.{sym, ap, ◌∙◌}
 use Prim.Native.Nat.{◌+◌}
-use Rattle.steps.specs.Records.{enteredAs}
-use Rattle.steps.specs.Machines.{heldElsewhere, takenBy}
+use Rattle.steps.specs.Records.{entered_as}
+use Rattle.steps.specs.Machines.{held_elsewhere, taken_by}
 use borrow.Author.Rules.{rules}
 use Rattle.steps.proofs.lock.Statement.{statement}
 use Rattle.steps.proofs.lock.Tie as tie
@@ -59,7 +59,7 @@ entered-requires c κs =
     let room = c.before in
     let f = room.before in
     let a = (begun f.before.before).args in
-    room-left a.m.pick a.t.depth f.full.result f.full.ensures room.if2.false
+    room_left a.m.pick a.t.depth f.full.result f.full.ensures room.if2.false
 
 taken-requires : tie.Need-taken-requires
 taken-requires c κs =
@@ -77,10 +77,10 @@ done-requires c κs =
     let w = f.before.before in
     let e = w.before.size.ensures.0 in
     let a = (begun w).args in
-    goes-as a.s.now entered.result (enteredAs a.t a.l (a.t.at + 2)) c.taken.result
-    (takenBy a.m a.m.pick a.l) entered.ensures (c.taken.ensures ∙ ap (takenBy a.m a.m.pick) e)
+    goes_as a.s.now entered.result (entered_as a.t a.l (a.t.at + 2)) c.taken.result
+    (taken_by a.m a.m.pick a.l) entered.ensures (c.taken.ensures ∙ ap (taken_by a.m a.m.pick) e)
     ((begun w).requires.goes
-    (sym (ap (heldElsewhere a.m a.m.pick) e) ∙ sym w.waits.ensures ∙ f.before.if1.false)
+    (sym (ap (held_elsewhere a.m a.m.pick) e) ∙ sym w.waits.ensures ∙ f.before.if1.false)
     (sym f.full.ensures ∙ room.if2.false))
 
 returns-3 : tie.Need-returns-3
@@ -96,8 +96,8 @@ returns-3 c =
     w.waits.result f.full.result c.done.result size.ensures.0 w.waits.ensures f.before.if1.false
     f.full.ensures room.if2.false e.entered.ensures taken.ensures c.done.ensures
 
-pub lock-spec : {M : Type 1} → statement M
-lock-spec =
+pub lock_spec : {M : Type 1} → statement M
+lock_spec =
     tie.close
     (tie.spec
     size-requires

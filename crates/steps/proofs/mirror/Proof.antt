@@ -1,6 +1,6 @@
 -- `mirror` meets its contract: the record that is bound is the one that the step leaves.
-use Rattle.steps.proofs.Steps.{goes-as, mirror-is}
-use Rattle.steps.specs.Records.{boundTo}
+use Rattle.steps.proofs.Steps.{goes_as, mirror-is}
+use Rattle.steps.specs.Records.{bound_to}
 use mathlib.Core.Path.{refl}
 use Prim.Native.Nat.{◌+◌}
 use borrow.Author.Rules.{rules}
@@ -26,7 +26,7 @@ bound-requires c κs = search rules
 done-requires : tie.Need-done-requires
 done-requires c κs =
     let a = (begun c).args in
-    goes-as a.s.now c.bound.result (boundTo a.t a.x a.l (a.t.at + 2)) a.m a.m
+    goes_as a.s.now c.bound.result (bound_to a.t a.x a.l (a.t.at + 2)) a.m a.m
     c.bound.ensures refl (begun c).requires.goes
 
 returns : tie.Need-returns
@@ -36,5 +36,5 @@ returns c =
     mirror-is a.s.now a.schedule.now a.x a.l a.t b.bound.result a.m c.done.result
     b.bound.ensures c.done.ensures
 
-pub mirror-spec : {M : Type 1} → statement M
-mirror-spec = tie.close (tie.spec add-bound bound-requires done-requires returns)
+pub mirror_spec : {M : Type 1} → statement M
+mirror_spec = tie.close (tie.spec add-bound bound-requires done-requires returns)

@@ -1,7 +1,7 @@
 -- `new` meets its contract, by whether a further lock may be made.
-use Rattle.steps.proofs.Steps.{goes-as, new-beyond, new_is}
-use Rattle.steps.specs.Records.{boundTo}
-use Rattle.steps.specs.Machines.{madeOne}
+use Rattle.steps.proofs.Steps.{goes_as, new-beyond, new_is}
+use Rattle.steps.specs.Records.{bound_to}
+use Rattle.steps.specs.Machines.{made_one}
 use Prim.Native.Nat.{◌+◌}
 use borrow.Author.Rules.{rules}
 use Rattle.steps.proofs.new.Statement.{statement}
@@ -43,8 +43,8 @@ done-requires c κs =
     let b = c.before in
     let i = begun b.before.before.before in
     let a = i.args in
-    goes-as a.s.now b.bound.result (boundTo a.t a.x a.m.made (a.t.at + 1)) c.made_one.result
-    (madeOne a.m) b.bound.ensures c.made_one.ensures (i.pre.goes (search rules))
+    goes_as a.s.now b.bound.result (bound_to a.t a.x a.m.made (a.t.at + 1)) c.made_one.result
+    (made_one a.m) b.bound.ensures c.made_one.ensures (i.pre.goes (search rules))
 
 returns-2 : tie.Need-returns-2
 returns-2 c =

@@ -1,6 +1,6 @@
 -- `operand` meets its contract: the lock of the name that the byte after the item's code is.
 use mathlib.Core.Path.{◌∙◌, ap}
-use Rattle.steps.specs.Records.{lockOf}
+use Rattle.steps.specs.Records.{lock_of}
 use borrow.Author.Rules.{rules}
 use Rattle.steps.proofs.operand.Statement.{statement}
 use Rattle.steps.proofs.operand.Tie as tie
@@ -21,8 +21,8 @@ returns : tie.Need-returns
 returns c =
     let read = c.before in
     let t = read.before.before.before.args.t in
-    c.lock-of.ensures ∙ ap (lockOf t) read.size.ensures.0
+    c.lock-of.ensures ∙ ap (lock_of t) read.size.ensures.0
 
-pub operand-spec : {M : Type 1} → statement M
-operand-spec =
+pub operand_spec : {M : Type 1} → statement M
+operand_spec =
     tie.close (tie.spec add-size shared-slice-read-size size-requires lock-of-requires returns)

@@ -1,6 +1,6 @@
 -- `other` meets its contract: the record that is left is the one that the step leaves.
-use Rattle.steps.proofs.Steps.{goes-as, other-is}
-use Rattle.steps.specs.Records.{leftTo}
+use Rattle.steps.proofs.Steps.{goes_as, other-is}
+use Rattle.steps.specs.Records.{left_to}
 use mathlib.Core.Path.{refl}
 use borrow.Author.Rules.{rules}
 use Rattle.steps.proofs.other.Statement.{statement}
@@ -12,7 +12,7 @@ left-requires c κs = search rules
 done-requires : tie.Need-done-requires
 done-requires c κs =
     let a = c.before.before.before.args in
-    goes-as a.s.now c.left.result (leftTo a.t a.next) a.m a.m c.left.ensures refl
+    goes_as a.s.now c.left.result (left_to a.t a.next) a.m a.m c.left.ensures refl
     c.before.before.before.requires.goes
 
 returns : tie.Need-returns
@@ -22,5 +22,5 @@ returns c =
     other-is a.s.now a.schedule.now a.next a.t l.left.result a.m c.done.result
     l.left.ensures c.done.ensures
 
-pub other-spec : {M : Type 1} → statement M
-other-spec = tie.close (tie.spec left-requires done-requires returns)
+pub other_spec : {M : Type 1} → statement M
+other_spec = tie.close (tie.spec left-requires done-requires returns)

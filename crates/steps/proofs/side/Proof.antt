@@ -1,14 +1,14 @@
 -- `side` meets its contract, by whether the byte is below 128.
-use Rattle.steps.proofs.Steps.{side-one, side-other}
+use Rattle.steps.proofs.Steps.{side_one, side_other}
 use borrow.Author.Rules.{rules}
 use Rattle.steps.proofs.side.Statement.{statement}
 use Rattle.steps.proofs.side.Tie as tie
 
 returns : tie.Need-returns
-returns c = side-one c.before.args.b c.before.args.one c.before.args.other (search rules)
+returns c = side_one c.before.args.b c.before.args.one c.before.args.other (search rules)
 
 returns-2 : tie.Need-returns-2
-returns-2 c = side-other c.before.args.b c.before.args.one c.before.args.other (search rules)
+returns-2 c = side_other c.before.args.b c.before.args.one c.before.args.other (search rules)
 
-pub side-spec : {M : Type 1} → statement M
-side-spec = tie.close (tie.spec returns returns-2)
+pub side_spec : {M : Type 1} → statement M
+side_spec = tie.close (tie.spec returns returns-2)

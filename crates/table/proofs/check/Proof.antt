@@ -1,6 +1,6 @@
 -- `check` meets its contract: each return before the last is one ground of refusal of the header.
 use native.Mathlib.Omega.{arith}
-use Rattle.table.proofs.HeaderLaws.{no_byte, no-routine, many-routines, short}
+use Rattle.table.proofs.HeaderLaws.{no_byte, no_routine, many_routines, short}
 use borrow.Author.Rules.{rules}
 use Rattle.table.proofs.check.Statement.{statement}
 use Rattle.table.proofs.check.Tie as tie
@@ -16,12 +16,12 @@ size-requires c κs = search rules
 
 returns-2 : tie.Need-returns-2
 returns-2 c =
-    no-routine c.before.before.before.before.before.args.table.now c.before.size.result
+    no_routine c.before.before.before.before.before.args.table.now c.before.size.result
     c.before.size.ensures.0 (omega arith) (omega arith)
 
 returns-3 : tie.Need-returns-3
 returns-3 c =
-    many-routines c.before.before.before.before.before.before.args.table.now
+    many_routines c.before.before.before.before.before.before.args.table.now
     c.before.before.size.result
     c.before.before.size.ensures.0 (omega arith) (omega arith)
 
@@ -46,8 +46,8 @@ check-sections-requires c κs =
 returns-5 : tie.Need-returns-5
 returns-5 c = search rules
 
-pub check-spec : {M : Type 1} → statement M
-check-spec =
+pub check_spec : {M : Type 1} → statement M
+check_spec =
     tie.close
     (tie.spec
     returns

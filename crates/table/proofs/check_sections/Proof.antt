@@ -2,7 +2,7 @@
 use mathlib.Core.Path.{◌∙◌}
 use native.Mathlib.Omega.{arith}
 use Prim.Native.Nat.{◌+◌, ◌*◌}
-use Rattle.table.proofs.HeaderLaws.{counts-bad, main-bad, large, uneven, both_read}
+use Rattle.table.proofs.HeaderLaws.{counts_bad, main_bad, large, uneven, both_read}
 use borrow.Author.Rules.{rules}
 use Rattle.table.proofs.check_sections.Statement.{statement}
 use Rattle.table.proofs.check_sections.Tie as tie
@@ -28,7 +28,7 @@ shared-slice-read-if2 c = search rules
 returns : tie.Need-returns
 returns c =
     let a = c.before.before.before.before.before.before.args in
-    main-bad a.table.now a.n c.before.before.before.before.before.before.requires (cc) (λ z. omega arith)
+    main_bad a.table.now a.n c.before.before.before.before.before.before.requires (cc) (λ z. omega arith)
 
 add-size : tie.Need-overflow-add-size
 add-size c = search rules
@@ -98,10 +98,10 @@ returns-4 c =
 returns-5 : tie.Need-returns-5
 returns-5 c =
     let a = c.before.before.before.before.args in
-    counts-bad a.table.now a.n c.before.before.before.before.requires (cc)
+    counts_bad a.table.now a.n c.before.before.before.before.requires (cc)
 
-pub check-sections-spec : {M : Type 1} → statement M
-check-sections-spec =
+pub check_sections_spec : {M : Type 1} → statement M
+check_sections_spec =
     tie.close
     (tie.spec
     add-ks

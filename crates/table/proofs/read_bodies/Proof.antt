@@ -2,13 +2,13 @@
 use mathlib.Core.Path.{◌≡◌, sym, ◌∙◌}
 use Prim.Native.Nat.{◌-◌, ◌≤◌}
 use lib.ListN.{length, get_or, drop}
-use Rattle.table.specs.Constants.{most-params}
+use Rattle.table.specs.Constants.{most_params}
 use Rattle.table.specs.Check.{bodies}
-use Rattle.table.specs.Answer.{checkedOf}
-use Rattle.table.specs.laws.Sound.{small-each}
-use Rattle.table.specs.laws.Readers.{checkedFrom}
-use Rattle.table.proofs.HeaderLaws.{from_start, body-bad, body-read}
-use Rattle.table.proofs.HeaderLaws.{bodies-over, bodies-done}
+use Rattle.table.specs.Answer.{checked_of}
+use Rattle.table.specs.Laws.Sound.{small_each}
+use Rattle.table.specs.Laws.Readers.{checked_from}
+use Rattle.table.proofs.HeaderLaws.{from_start, body_bad, body_read}
+use Rattle.table.proofs.HeaderLaws.{bodies_over, bodies_done}
 use borrow.Author.Rules.{rules}
 use native.Mathlib.Omega.{arith}
 use Rattle.table.proofs.read_bodies.Statement.{statement}
@@ -17,7 +17,7 @@ use Rattle.table.proofs.read_bodies.Tie as tie
 abbrev invariant-loop : tie.invariant-loop
 invariant-loop ks s r₀ at₀ items₀ r at items =
     (items ≤ at) × (r ≤ length ks)
-    × (checkedOf (bodies ks ks s) ≡ checkedFrom r items (bodies ks (drop r ks) (drop at s)))
+    × (checked_of (bodies ks ks s) ≡ checked_from r items (bodies ks (drop r ks) (drop at s)))
 
 abbrev decreases-loop : tie.decreases-loop
 decreases-loop ks s r₀ at₀ items₀ r at items = length ks - r
@@ -36,10 +36,10 @@ wide-requires c κs = search rules
 next-body-requires : tie.Need-next-body-requires invariant-loop decreases-loop
 next-body-requires c κs =
     let a = c.before.before.before.before.before.before.args in
-    let small : get_or a.ks.now c.before.before.before.loop.r 0 ≤ most-params = small-each a.ks.now
+    let small : get_or a.ks.now c.before.before.before.loop.r 0 ≤ most_params = small_each a.ks.now
     c.before.before.before.before.before.before.requires c.before.before.before.loop.r in
     let e = c.wide.ensures in
-    record { few-params = omega arith; few-items = c.before.before.before.loop.invariant.0 }
+    record { few_params = omega arith; few_items = c.before.before.before.loop.invariant.0 }
 
 enum-known-next : tie.Need-enum-known-next invariant-loop decreases-loop
 enum-known-next c = search rules
@@ -51,17 +51,17 @@ returns : tie.Need-returns invariant-loop decreases-loop
 returns c =
     let a = c.before.before.before.before.before.before.before.before.before.before.args in
     let small : get_or a.ks.now
-    c.before.before.before.before.before.before.before.loop.r 0 ≤ most-params = small-each
+    c.before.before.before.before.before.before.before.loop.r 0 ≤ most_params = small_each
     a.ks.now c.before.before.before.before.before.before.before.before.before.before.requires
     c.before.before.before.before.before.before.before.loop.r in
     sym (c.before.before.before.before.before.before.before.loop.invariant.2
-    ∙ body-bad a.ks.now a.s.now c.before.before.before.before.before.before.before.loop.r
+    ∙ body_bad a.ks.now a.s.now c.before.before.before.before.before.before.before.loop.r
     c.before.before.before.before.before.before.before.loop.at
     c.before.before.before.before.before.before.before.loop.items (omega arith)
     c.before.before.before.before.wide.result c.before.before.before.before.wide.ensures
     (let e = c.before.before.before.before.wide.ensures in omega arith)
     c.before.before.before.before.before.before.before.loop.invariant.0 c.before.e.given.0.0
-    (sym c.before.before.before.next-body.ensures ∙ c.before.e.given.1))
+    (sym c.before.before.before.next_body.ensures ∙ c.before.e.given.1))
 
 add_r : tie.Need-overflow-add-r invariant-loop decreases-loop
 add_r c = search rules
@@ -73,33 +73,33 @@ loop-again : tie.Need-loop-preserved invariant-loop decreases-loop
 loop-again c =
     let a = c.before.before.before.before.before.before.before.before.before.before.args in
     let small : get_or a.ks.now
-    c.before.before.before.before.before.before.before.loop.r 0 ≤ most-params = small-each
+    c.before.before.before.before.before.before.before.loop.r 0 ≤ most_params = small_each
     a.ks.now c.before.before.before.before.before.before.before.before.before.before.requires
     c.before.before.before.before.before.before.before.loop.r in
-    let g = body-read a.ks.now a.s.now c.before.before.before.before.before.before.before.loop.r
+    let g = body_read a.ks.now a.s.now c.before.before.before.before.before.before.before.loop.r
     c.before.before.before.before.before.before.before.loop.at
     c.before.before.before.before.before.before.before.loop.items (omega arith)
     c.before.before.before.before.wide.result c.before.before.before.before.wide.ensures
     (let e = c.before.before.before.before.wide.ensures in omega arith)
     c.before.before.before.before.before.before.before.loop.invariant.0 c.before.next.given.0.0
     c.before.next.given.0.1.0
-    (sym c.before.before.before.next-body.ensures ∙ c.before.next.given.1) in
+    (sym c.before.before.before.next_body.ensures ∙ c.before.next.given.1) in
     (g.0, omega arith, c.before.before.before.before.before.before.before.loop.invariant.2 ∙ g.1)
 
 returns-2 : tie.Need-returns-2 invariant-loop decreases-loop
 returns-2 c =
     let a = c.before.before.before.before.before.args in
-    sym (c.before.before.loop.invariant.2 ∙ bodies-over a.ks.now a.s.now c.before.before.loop.r
+    sym (c.before.before.loop.invariant.2 ∙ bodies_over a.ks.now a.s.now c.before.before.loop.r
     c.before.before.loop.at c.before.before.loop.items (omega arith) (omega arith))
 
 returns-3 : tie.Need-returns-3 invariant-loop decreases-loop
 returns-3 c =
     let a = c.before.before.before.before.before.args in
-    sym (c.before.before.loop.invariant.2 ∙ bodies-done a.ks.now a.s.now c.before.before.loop.r
+    sym (c.before.before.loop.invariant.2 ∙ bodies_done a.ks.now a.s.now c.before.before.loop.r
     c.before.before.loop.at c.before.before.loop.items (omega arith) (omega arith))
 
-pub read-bodies-spec : {M : Type 1} → statement M
-read-bodies-spec =
+pub read_bodies_spec : {M : Type 1} → statement M
+read_bodies_spec =
     tie.close
     (tie.spec
     invariant-loop

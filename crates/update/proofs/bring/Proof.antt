@@ -4,11 +4,11 @@ use mathlib.Core.List.{List}
 use Prim.Native.Nat.{ℕ, ◌≤◌}
 use native.Mathlib.Omega.{arith}
 use lib.ListN.{length}
-use Rattle.table.specs.laws.Sections.{Holds, few}
-use Rattle.settle.specs.laws.Surveys.{cut-surveyed}
+use Rattle.table.specs.Laws.Sections.{Holds, few}
+use Rattle.settle.specs.Laws.Surveys.{cut_surveyed}
 use Rattle.settle.proofs.survey.survey_bodies.Reads as survey-bodies-reads
-use Rattle.update.proofs.FitLaws.{told-so}
-use Rattle.update.proofs.BringLaws.{brings-differ}
+use Rattle.update.proofs.FitLaws.{told_so}
+use Rattle.update.proofs.BringLaws.{brings_differ}
 use Rattle.update.proofs.same.same.Reads as same_Reads
 use Rattle.update.proofs.bring_surveyed.Reads as bring-surveyed-reads
 use borrow.Author.Rules.{rules}
@@ -30,18 +30,18 @@ AtSurveyed =
     ) reads.Pre reads.Post
 
 -- the parameter counts are the same there
-same-counts : (v : AtSurveyed)
+same_counts : (v : AtSurveyed)
     → v.before.before.before.before.before.before.before.before.before.before.args.ks.now
     ≡ v.before.before.before.before.before.before.before.before.before.before.args.ls.now
-same-counts v =
+same_counts v =
     let compared = v.before.before.before.before in
-    told-so compared.same.result _ v.before.before.before.if1.left compared.same.ensures
+    told_so compared.same.result _ v.before.before.before.if1.left compared.same.ensures
 
-few-routines : (v : AtSurveyed)
+few_routines : (v : AtSurveyed)
     → length v.before.before.before.before.before.before.before.before.before.before.args.ls.now ≤ 64
-few-routines v =
+few_routines v =
     let start = v.before.before.before.before.before.before.before.before.before.before in
-    few start.args.ls.now start.args.t.now (start.pre.new, start.pre.new-held)
+    few start.args.ls.now start.args.t.now (start.pre.new, start.pre.new_held)
 
 same-requires : tie.Need-same-requires
 same-requires c κs = search rules
@@ -51,7 +51,7 @@ returns c =
     let compared = c.before in
     let start = compared.before.before.before.before.before.before in
     let a = start.args in (
-      brings-differ a.ks.now a.s.now a.ls.now a.t.now a.r a.model.now compared.same.result
+      brings_differ a.ks.now a.s.now a.ls.now a.t.now a.r a.model.now compared.same.result
           compared.same.ensures c.if1.taken,
       (omega arith, omega arith),
     )
@@ -59,7 +59,7 @@ returns c =
 survey-bodies-requires : tie.Need-survey-bodies-requires
 survey-bodies-requires c κs =
     let start = c.before.before.before.before.before.before.before.before.before in
-    ((start.pre.new, start.pre.new-held), refl, refl)
+    ((start.pre.new, start.pre.new_held), refl, refl)
 
 sub-bring-surveyed : tie.Need-sub-bring-surveyed
 sub-bring-surveyed c = search rules
@@ -70,8 +70,8 @@ part-bring-surveyed-start c = search rules
 part-bring-surveyed-end : tie.Need-part-bring-surveyed-end
 part-bring-surveyed-end c =
     let v = c.before in
-    let f = few-routines v in
-    let o = v.survey-bodies.ensures.starts-long in
+    let f = few_routines v in
+    let o = v.survey-bodies.ensures.starts_long in
     omega arith
 
 sub-bring-surveyed-2 : tie.Need-sub-bring-surveyed-2
@@ -83,8 +83,8 @@ part-bring-surveyed-start-2 c = search rules
 part-bring-surveyed-end-2 : tie.Need-part-bring-surveyed-end-2
 part-bring-surveyed-end-2 c =
     let v = c.before.before.before in
-    let f = few-routines v in
-    let o = v.survey-bodies.ensures.calls-long in
+    let f = few_routines v in
+    let o = v.survey-bodies.ensures.calls_long in
     omega arith
 
 bring-surveyed-requires : tie.Need-bring-surveyed-requires
@@ -93,17 +93,17 @@ bring-surveyed-requires c κs =
     let start = v.before.before.before.before.before.before.before.before.before.before in
     let a = start.args in
     let p = start.pre in
-    let e = same-counts v in
+    let e = same_counts v in
     let long = p.long in
     let listed = p.listed in
     record {
       old = p.old;
-      old-held = rw e at p.old-held;
+      old_held = rw e at p.old_held;
       new = p.new;
-      new-known = record {
-        holds = p.new-held;
-        surveyed = cut-surveyed a.ls.now a.t.now v.survey-bodies.last.1.1.0
-            v.survey-bodies.last.1.1.1.0 v.survey-bodies.ensures p.new p.new-held;
+      new_known = record {
+        holds = p.new_held;
+        surveyed = cut_surveyed a.ls.now a.t.now v.survey-bodies.last.1.1.0
+            v.survey-bodies.last.1.1.1.0 v.survey-bodies.ensures p.new p.new_held;
       };
       listed = rw e at listed;
       long = rw e at long;
@@ -118,17 +118,17 @@ returns-2 c =
     let v = c.before.before.before.before.before.before.before.before in
     let start = v.before.before.before.before.before.before.before.before.before.before in
     let a = start.args in
-    let e = same-counts v in (
+    let e = same_counts v in (
       λ P Q p q. brought.ensures.0 P Q (subst (λ (l : List ℕ). Holds P l a.s.now) e p) (record {
         holds = q;
-        surveyed = cut-surveyed a.ls.now a.t.now v.survey-bodies.last.1.1.0
+        surveyed = cut_surveyed a.ls.now a.t.now v.survey-bodies.last.1.1.0
             v.survey-bodies.last.1.1.1.0 v.survey-bodies.ensures Q q;
       }),
       brought.ensures.1,
     )
 
-pub bring-spec : {M : Type 1} → statement M
-bring-spec =
+pub bring_spec : {M : Type 1} → statement M
+bring_spec =
     tie.close
     (tie.spec
     same-requires

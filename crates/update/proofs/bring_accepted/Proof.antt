@@ -1,6 +1,6 @@
 -- `bring_accepted` meets its contract: the buffer and the routine are looked at, and the sections are handed on.
 use native.Mathlib.Omega.{arith}
-use Rattle.update.proofs.BringLaws.{can-bring, brings-short, brings-unlisted, brings-accepted}
+use Rattle.update.proofs.BringLaws.{can_bring, brings_short, brings_unlisted, brings_accepted}
 use borrow.Author.Rules.{rules}
 use Rattle.update.proofs.bring_accepted.Statement.{statement}
 use Rattle.update.proofs.bring_accepted.Tie as tie
@@ -12,7 +12,7 @@ returns : tie.Need-returns
 returns c =
     let start = c.before.before.before.before in
     let a = start.args in (
-      brings-short a.old.now a.new.now a.n a.m start.requires.0 start.requires.1 a.routine
+      brings_short a.old.now a.new.now a.n a.m start.requires.0 start.requires.1 a.routine
           a.model.now (omega arith),
       (omega arith, omega arith),
     )
@@ -21,7 +21,7 @@ returns-2 : tie.Need-returns-2
 returns-2 c =
     let start = c.before.before.before.before.before in
     let a = start.args in (
-      brings-unlisted a.old.now a.new.now a.n a.m start.requires.0 start.requires.1 a.routine
+      brings_unlisted a.old.now a.new.now a.n a.m start.requires.0 start.requires.1 a.routine
           a.model.now (omega arith) (omega arith),
       (omega arith, omega arith),
     )
@@ -82,7 +82,7 @@ bring-requires : tie.Need-bring-requires
 bring-requires c κs =
     let start = c.before.before.before.before.before.before.before.before.before.before in
     let a = start.args in
-    can-bring a.old.now a.new.now a.n a.m start.requires.0 start.requires.1 a.routine a.model.now
+    can_bring a.old.now a.new.now a.n a.m start.requires.0 start.requires.1 a.routine a.model.now
     (omega arith) (omega arith)
 
 same_length : tie.Need-same-length
@@ -93,13 +93,13 @@ returns-3 c =
     let brought = c.before.before.bring in
     let start = c.before.before.before.before.before.before.before.before.before.before.before.before.before in
     let a = start.args in (
-      brings-accepted a.old.now a.new.now a.n a.m start.pre.0 start.pre.1 a.routine
+      brings_accepted a.old.now a.new.now a.n a.m start.pre.0 start.pre.1 a.routine
           a.model.now (omega arith) brought.new.1.1.1.1.1.0 brought.result brought.ensures.0,
       brought.ensures.1,
     )
 
-pub bring-accepted-spec : {M : Type 1} → statement M
-bring-accepted-spec =
+pub bring_accepted_spec : {M : Type 1} → statement M
+bring_accepted_spec =
     tie.close
     (tie.spec
     mul-if1

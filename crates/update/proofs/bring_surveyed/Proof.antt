@@ -1,8 +1,8 @@
 -- `bring_surveyed` meets its contract: the tables are compared, the model is looked at, and its rows are worked out.
 use native.Mathlib.Omega.{arith}
-use Rattle.table.specs.laws.Sections.{few-params}
-use Rattle.settle.specs.laws.Links.{no-callers}
-use Rattle.update.proofs.BringLaws.{few-calls, can-compare, can-rework, brings-other, brings-bad, brings-done}
+use Rattle.table.specs.Laws.Sections.{few_params}
+use Rattle.settle.specs.Laws.Links.{no_callers}
+use Rattle.update.proofs.BringLaws.{few_calls, can_compare, can_rework, brings_other, brings_bad, brings_done}
 use borrow.Author.Rules.{rules}
 use Rattle.update.proofs.bring_surveyed.Statement.{statement}
 use Rattle.update.proofs.bring_surveyed.Tie as tie
@@ -11,7 +11,7 @@ mul-same-elsewhere : tie.Need-overflow-mul-same-elsewhere
 mul-same-elsewhere c =
     let start = c.before.before.before.before.before.before in
     let a = start.args in
-    let f = few-calls a.ks.now a.s.now a.t.now a.starts.now a.calls.now a.r a.model.now
+    let f = few_calls a.ks.now a.s.now a.t.now a.starts.now a.calls.now a.r a.model.now
     start.requires in
     search rules
 
@@ -19,13 +19,13 @@ shared-slice-read-same-elsewhere : tie.Need-shared-slice-read-same-elsewhere
 shared-slice-read-same-elsewhere c =
     let start = c.before.before.before.before.before.before.before in
     let a = start.args in
-    (few-calls a.ks.now a.s.now a.t.now a.starts.now a.calls.now a.r a.model.now start.requires).1
+    (few_calls a.ks.now a.s.now a.t.now a.starts.now a.calls.now a.r a.model.now start.requires).1
 
 same-elsewhere-requires : tie.Need-same-elsewhere-requires
 same-elsewhere-requires c κs =
     let start = c.before.before.before.before.before.before.before in
     let a = start.args in
-    can-compare a.ks.now a.s.now a.t.now a.starts.now a.calls.now a.r start.requires.listed
+    can_compare a.ks.now a.s.now a.t.now a.starts.now a.calls.now a.r start.requires.listed
     a.model.now start.requires
 
 returns : tie.Need-returns
@@ -33,7 +33,7 @@ returns c =
     let compared = c.before in
     let start = compared.before.before.before.before.before.before.before.before in
     let a = start.args in (
-      brings-other a.ks.now a.s.now a.t.now a.starts.now a.calls.now a.r start.requires.listed
+      brings_other a.ks.now a.s.now a.t.now a.starts.now a.calls.now a.r start.requires.listed
           a.model.now compared.same-elsewhere.result compared.same-elsewhere.ensures c.if1.true,
       (omega arith, omega arith),
     )
@@ -43,7 +43,7 @@ rows-fit-requires c κs =
     let compared = c.before.before in
     let start = compared.before.before.before.before.before.before.before.before in
     let a = start.args in
-    (start.requires.long, few-params start.requires.old a.ks.now a.s.now start.requires.old-held)
+    (start.requires.long, few_params start.requires.old a.ks.now a.s.now start.requires.old_held)
 
 same_length : tie.Need-same-length
 same_length c = search rules
@@ -54,7 +54,7 @@ returns-2 c =
     let compared = looked.before.before.before in
     let start = compared.before.before.before.before.before.before.before.before in
     let a = start.args in (
-      brings-bad a.ks.now a.s.now a.t.now a.starts.now a.calls.now a.r start.requires.listed
+      brings_bad a.ks.now a.s.now a.t.now a.starts.now a.calls.now a.r start.requires.listed
           a.model.now compared.same-elsewhere.result compared.same-elsewhere.ensures
           looked.before.before.if1.false looked.rows_fit.result looked.rows_fit.ensures c.if2.true,
       (omega arith, omega arith),
@@ -66,9 +66,9 @@ add-callers-requires c κs =
     let compared = looked.before.before.before in
     let start = compared.before.before.before.before.before.before.before.before in
     let a = start.args in (
-      (few-calls a.ks.now a.s.now a.t.now a.starts.now a.calls.now a.r a.model.now
+      (few_calls a.ks.now a.s.now a.t.now a.starts.now a.calls.now a.r a.model.now
           start.requires).0,
-      no-callers,
+      no_callers,
     )
 
 rework-requires : tie.Need-rework-requires
@@ -78,7 +78,7 @@ rework-requires c κs =
     let compared = looked.before.before.before in
     let start = compared.before.before.before.before.before.before.before.before in
     let a = start.args in
-    can-rework a.ks.now a.s.now a.t.now a.starts.now a.calls.now a.r start.requires.listed
+    can_rework a.ks.now a.s.now a.t.now a.starts.now a.calls.now a.r start.requires.listed
     a.model.now compared.same-elsewhere.result compared.same-elsewhere.ensures
     looked.before.before.if1.false looked.rows_fit.result looked.rows_fit.ensures
     turned.before.before.if2.false turned.add-callers.new.1.0 turned.add-callers.ensures start.requires
@@ -94,7 +94,7 @@ returns-3 c =
     let compared = looked.before.before.before in
     let start = compared.before.before.before.before.before.before.before.before in
     let a = start.args in (
-      brings-done a.ks.now a.s.now a.t.now a.starts.now a.calls.now a.r start.requires.listed
+      brings_done a.ks.now a.s.now a.t.now a.starts.now a.calls.now a.r start.requires.listed
           a.model.now compared.same-elsewhere.result compared.same-elsewhere.ensures
           looked.before.before.if1.false looked.rows_fit.result looked.rows_fit.ensures
           turned.before.before.if2.false turned.add-callers.new.1.0 turned.add-callers.ensures
@@ -102,8 +102,8 @@ returns-3 c =
       tt,
     )
 
-pub bring-surveyed-spec : {M : Type 1} → statement M
-bring-surveyed-spec =
+pub bring_surveyed_spec : {M : Type 1} → statement M
+bring_surveyed_spec =
     tie.close
     (tie.spec
     mul-same-elsewhere

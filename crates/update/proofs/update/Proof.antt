@@ -1,13 +1,13 @@
 -- `update` meets its contract, by the cases of the two checks.
 use mathlib.Core.Path.{sym, ◌∙◌}
 use native.Mathlib.Omega.{arith}
-use Rattle.table.specs.Check.{checkTable}
-use Rattle.table.specs.laws.Accepts.{refused-of}
-use Rattle.table.specs.laws.Refusals.{refusals}
-use Rattle.table.specs.laws.Sections.{AcceptedAs, accepted-as}
+use Rattle.table.specs.Check.{check_table}
+use Rattle.table.specs.Laws.Accepts.{refused_of}
+use Rattle.table.specs.Laws.Refusals.{refusals}
+use Rattle.table.specs.Laws.Sections.{AcceptedAs, accepted_as}
 use Rattle.table.proofs.check.Reads as check-reads
 use Rattle.update.proofs.bring_accepted.Reads as bring-accepted-reads
-use Rattle.update.proofs.BringLaws.{refused-by-old, refused-by-new, replaced-by}
+use Rattle.update.proofs.BringLaws.{refused_by_old, refused_by_new, replaced_by}
 use borrow.Author.Rules.{rules}
 use Rattle.update.proofs.update.Statement.{statement}
 use Rattle.update.proofs.update.Tie as tie
@@ -24,11 +24,11 @@ AtOld =
       bring-accepted-reads.Learnt,
     ) reads.Pre reads.Post
 
-old-accepted : (o : AtOld) → AcceptedAs o.before.before.before.before.before.before.before.args.old.now
+old_accepted : (o : AtOld) → AcceptedAs o.before.before.before.before.before.before.before.args.old.now
     o.before.n.given.0.0
-old-accepted o =
+old_accepted o =
     let checked = o.before.before.before in
-    accepted-as _ _ _ (λ i. omega (arith, checked.before.before.before.shared-slice-known.given i))
+    accepted_as _ _ _ (λ i. omega (arith, checked.before.before.before.shared-slice-known.given i))
     (sym o.before.n.given.1 ∙ checked.check.ensures)
 
 -- and the new one too
@@ -41,13 +41,13 @@ AtNew =
       bring-accepted-reads.Learnt,
     ) reads.Pre reads.Post
 
-new-accepted : (w : AtNew)
+new_accepted : (w : AtNew)
     → AcceptedAs w.before.before.before.before.before.before.before.before.before.before.before.args.new.now
     w.before.m.given.0.0
-new-accepted w =
+new_accepted w =
     let checked = w.before.before.before in
     let old = checked.before in
-    accepted-as _ _ _
+    accepted_as _ _ _
     (λ i. omega (arith, old.before.before.before.before.before.shared-slice-known2.given i))
     (sym w.before.m.given.1 ∙ checked.check2.ensures)
 
@@ -72,7 +72,7 @@ enum-known-m c = search rules
 bring-accepted-requires : tie.Need-bring-accepted-requires
 bring-accepted-requires c κs =
     let w = c.before in
-    (old-accepted w.before.before.before.before, new-accepted w)
+    (old_accepted w.before.before.before.before, new_accepted w)
 
 returns : tie.Need-returns
 returns c =
@@ -80,21 +80,21 @@ returns c =
     let start = checked.before.before.before.before in
     let a = start.args in
     let e = c.before.e.given.0.0 in
-    let h = refused-of (checkTable a.old.now) e (sym c.before.e.given.1 ∙ checked.check.ensures) in
+    let h = refused_of (check_table a.old.now) e (sym c.before.e.given.1 ∙ checked.check.ensures) in
     let r = refusals a.old.now e h in
-    (refused-by-old a.old.now a.new.now a.routine a.model.now e h, (omega arith, omega arith))
+    (refused_by_old a.old.now a.new.now a.routine a.model.now e h, (omega arith, omega arith))
 
 returns-2 : tie.Need-returns-2
 returns-2 c =
     let checked = c.before.before.before in
     let o = checked.before in
-    let t = old-accepted o in
+    let t = old_accepted o in
     let start = o.before.before.before.before.before.before.before in
     let a = start.args in
     let e = c.before.e2.given.0.0 in
-    let h = refused-of (checkTable a.new.now) e (sym c.before.e2.given.1 ∙ checked.check2.ensures) in
+    let h = refused_of (check_table a.new.now) e (sym c.before.e2.given.1 ∙ checked.check2.ensures) in
     let r = refusals a.new.now e h in (
-      refused-by-new a.old.now a.new.now a.routine a.model.now t.program t.accepts e h,
+      refused_by_new a.old.now a.new.now a.routine a.model.now t.program t.accepts e h,
       (omega arith, omega arith),
     )
 
@@ -108,15 +108,15 @@ returns-3 c =
     let o = w.before.before.before.before in
     let start = o.before.before.before.before.before.before.before in
     let a = start.args in
-    let t = old-accepted o in
-    let u = new-accepted w in (
-      replaced-by a.old.now a.new.now a.routine a.model.now t.program t.accepts u.program
+    let t = old_accepted o in
+    let u = new_accepted w in (
+      replaced_by a.old.now a.new.now a.routine a.model.now t.program t.accepts u.program
           u.accepts brought.new.1.1.1.1.1.0 brought.result brought.ensures.0,
       brought.ensures.1,
     )
 
-pub update-spec : {M : Type 1} → statement M
-update-spec =
+pub update_spec : {M : Type 1} → statement M
+update_spec =
     tie.close
     (tie.spec
     check-requires

@@ -1,7 +1,7 @@
 -- `vangpear_update` meets its contract: it gives the number of what `update` answers.
 use mathlib.Core.Path.{sym, ap}
-use Rattle.update.specs.Answer.{updateNumber}
-use Rattle.update.proofs.BringLaws.{small-refusal}
+use Rattle.update.specs.Answer.{update_number}
+use Rattle.update.proofs.BringLaws.{small_refusal}
 use borrow.Author.Rules.{rules}
 use Rattle.update.proofs.vangpear_update.Statement.{statement}
 use Rattle.update.proofs.vangpear_update.Tie as tie
@@ -18,7 +18,7 @@ enum-known-e c = search rules
 cast-result : tie.Need-overflow-cast-result
 cast-result c =
     let r = c.before.before.before.before.before.update in
-    let h = small-refusal r.result c.before.e.given.0.0 r.ensures.1 c.before.e.given.1 in
+    let h = small_refusal r.result c.before.e.given.0.0 r.ensures.1 c.before.e.given.1 in
     search rules
 
 same_length : tie.Need-same-length
@@ -27,7 +27,7 @@ same_length c = search rules
 returns : tie.Need-returns
 returns c =
     let r = c.before.before.before.before.update in
-    (r.result, sym (ap updateNumber c.enum_told.given.1), r.ensures.1, r.ensures.0)
+    (r.result, sym (ap update_number c.enum_told.given.1), r.ensures.1, r.ensures.0)
 
 same-length-2 : tie.Need-same-length-2
 same-length-2 c = search rules
@@ -35,10 +35,10 @@ same-length-2 c = search rules
 returns-2 : tie.Need-returns-2
 returns-2 c =
     let r = c.before.before.before.before.before.update in
-    (r.result, sym (ap updateNumber c.before.e.given.1), r.ensures.1, r.ensures.0)
+    (r.result, sym (ap update_number c.before.e.given.1), r.ensures.1, r.ensures.0)
 
-pub vangpear-update-spec : {M : Type 1} → statement M
-vangpear-update-spec =
+pub vangpear_update_spec : {M : Type 1} → statement M
+vangpear_update_spec =
     tie.close
     (tie.spec
     update-requires

@@ -3,8 +3,8 @@ use mathlib.Core.Path.{refl}
 use Prim.Native.Nat.{◌-◌, ◌<◌}
 use native.Mathlib.Omega.{arith}
 use lib.ListN.{length}
-use Rattle.writer.proofs.TableLaws.{Putting, putting-start, putting-end, putting-size, start-here, count-here}
-use Rattle.writer.proofs.TableLaws.{body-ready, putting-on}
+use Rattle.writer.proofs.TableLaws.{Putting, putting_start, putting_end, putting_size, start_here, count_here}
+use Rattle.writer.proofs.TableLaws.{body_ready, putting_on}
 use borrow.Author.Rules.{rules}
 use Rattle.writer.proofs.put_bodies.Statement.{statement}
 use Rattle.writer.proofs.put_bodies.Tie as tie
@@ -19,7 +19,7 @@ loop-holds : tie.Need-loop-init invariant-loop decreases-loop
 loop-holds c =
     let start = c.before.before.before.before.before.before in
     let a = start.args in
-    putting-start a.ks.now a.s.now a.starts.now a.places.now a.routines.now a.p a.out.now
+    putting_start a.ks.now a.s.now a.starts.now a.places.now a.routines.now a.p a.out.now
     start.requires
 
 shared-slice-read-size : tie.Need-shared-slice-read-size invariant-loop decreases-loop
@@ -38,7 +38,7 @@ shared-slice-read-put-body c =
     let l = turn.loop in
     let start = turn.before.before.before.before.before.before.before in
     let a = start.args in
-    let h = start-here a.ks.now a.s.now a.starts.now a.places.now a.routines.now a.p
+    let h = start_here a.ks.now a.s.now a.starts.now a.places.now a.routines.now a.p
     a.out.now
     start.requires l.out l.i l.q l.invariant (omega arith) _ routine in
     search rules
@@ -50,7 +50,7 @@ end-of-requires c κs =
     let l = turn.loop in
     let start = turn.before.before.before.before.before.before.before in
     let a = start.args in
-    start-here a.ks.now a.s.now a.starts.now a.places.now a.routines.now a.p a.out.now
+    start_here a.ks.now a.s.now a.starts.now a.places.now a.routines.now a.p a.out.now
     start.requires l.out l.i l.q l.invariant (omega arith) _ routine
 
 shared-slice-read-put-body-2 : tie.Need-shared-slice-read-put-body-2 invariant-loop decreases-loop
@@ -61,7 +61,7 @@ shared-slice-read-put-body-2 c =
     let l = turn.loop in
     let start = turn.before.before.before.before.before.before.before in
     let a = start.args in
-    let h = count-here a.ks.now a.s.now a.starts.now a.places.now a.routines.now a.p
+    let h = count_here a.ks.now a.s.now a.starts.now a.places.now a.routines.now a.p
     a.out.now
     start.requires l.out l.i l.q l.invariant (omega arith) _ routine in
     search rules
@@ -76,7 +76,7 @@ put-body-requires c κs =
     let l = turn.loop in
     let start = turn.before.before.before.before.before.before.before in
     let a = start.args in
-    body-ready a.ks.now a.s.now a.starts.now a.places.now a.routines.now a.p a.out.now
+    body_ready a.ks.now a.s.now a.starts.now a.places.now a.routines.now a.p a.out.now
     start.requires l.out l.i l.q l.invariant (omega arith) _ routine _ _ _ refl ended refl
 
 add-i : tie.Need-overflow-add-i invariant-loop decreases-loop
@@ -99,7 +99,7 @@ loop-again c =
     let start = turn.before.before.before.before.before.before.before in
     let a = start.args in
     let inside : l.i < length a.routines.now = tested.loop-test.true in
-    putting-on a.ks.now a.s.now a.starts.now a.places.now a.routines.now a.p a.out.now
+    putting_on a.ks.now a.s.now a.starts.now a.places.now a.routines.now a.p a.out.now
     start.requires l.out l.i l.q l.invariant inside _ routine _ _ _ refl ended refl _ _ wrote
 
 same_length : tie.Need-same-length invariant-loop decreases-loop
@@ -108,7 +108,7 @@ same_length c =
     let l = turn.loop in
     let start = turn.before.before.before.before.before.before.before in
     let a = start.args in
-    putting-size a.ks.now a.s.now a.starts.now a.places.now a.routines.now a.p a.out.now
+    putting_size a.ks.now a.s.now a.starts.now a.places.now a.routines.now a.p a.out.now
     start.requires l.out l.i l.q l.invariant
 
 returns : tie.Need-returns invariant-loop decreases-loop
@@ -117,11 +117,11 @@ returns c =
     let l = turn.loop in
     let start = turn.before.before.before.before.before.before.before in
     let a = start.args in
-    putting-end a.ks.now a.s.now a.starts.now a.places.now a.routines.now a.p a.out.now
+    putting_end a.ks.now a.s.now a.starts.now a.places.now a.routines.now a.p a.out.now
     start.requires l.out l.i l.q l.invariant (omega arith)
 
-pub put-bodies-spec : {M : Type 1} → statement M
-put-bodies-spec =
+pub put_bodies_spec : {M : Type 1} → statement M
+put_bodies_spec =
     tie.close
     (tie.spec
     invariant-loop

@@ -3,18 +3,18 @@ use mathlib.Core.Path.{◌≡◌}
 use Prim.Native.Nat.{◌+◌, ◌-◌, ◌≤◌}
 use native.Mathlib.Omega.{arith}
 use lib.ListN.{length, take}
-use Rattle.table.specs.laws.Lists.{getD-in}
+use Rattle.table.specs.Laws.Lists.{getD-in}
 use Rattle.append.specs.Appends.{Appends}
-use Rattle.append.specs.laws.Appending.{nothing, same_size}
-use Rattle.writer.specs.Contracts.{countsOf}
-use Rattle.writer.proofs.TableLaws.{counts-more, counts_all}
+use Rattle.append.specs.Laws.Appending.{nothing, same_size}
+use Rattle.writer.specs.Parts.{counts_of}
+use Rattle.writer.proofs.TableLaws.{counts_more, counts_all}
 use borrow.Author.Rules.{rules}
 use Rattle.writer.proofs.put_counts.Statement.{statement}
 use Rattle.writer.proofs.put_counts.Tie as tie
 
 abbrev invariant-loop : tie.invariant-loop
 invariant-loop ks routines out₀ p i₀ q₀ out i q =
-    (i ≤ length routines) × (q ≡ p + i) × Appends p (countsOf ks (take i routines)) out₀ out q
+    (i ≤ length routines) × (q ≡ p + i) × Appends p (counts_of ks (take i routines)) out₀ out q
 
 abbrev decreases-loop : tie.decreases-loop
 decreases-loop ks routines out₀ p i₀ q₀ out i q = length routines - i
@@ -66,7 +66,7 @@ loop-again c =
     let start = turn.before.before.before.before in
     let a = start.args in
     let p = wrote.place in
-    (omega arith, omega arith, counts-more _ a.routines.now l.i _ (omega arith) z l.invariant.2 wrote)
+    (omega arith, omega arith, counts_more _ a.routines.now l.i _ (omega arith) z l.invariant.2 wrote)
 
 same_length : tie.Need-same-length invariant-loop decreases-loop
 same_length c =
@@ -80,8 +80,8 @@ returns c =
     let a = start.args in
     counts_all _ a.routines.now l.i (omega arith) l.invariant.2
 
-pub put-counts-spec : {M : Type 1} → statement M
-put-counts-spec =
+pub put_counts_spec : {M : Type 1} → statement M
+put_counts_spec =
     tie.close
     (tie.spec
     invariant-loop

@@ -1,7 +1,7 @@
 -- `put_table` meets its contract: the parts of the table one after the other.
 use native.Mathlib.Omega.{arith}
 use lib.ListN.{get_or, length-map}
-use Rattle.writer.proofs.WriteLaws.{can-at, can-count, few_bytes, table-written}
+use Rattle.writer.proofs.WriteLaws.{can_at, can_count, few_bytes, table_written}
 use borrow.Author.Rules.{rules}
 use Rattle.writer.proofs.put_table.Statement.{statement}
 use Rattle.writer.proofs.put_table.Tie as tie
@@ -19,7 +19,7 @@ put-counts-requires c κs =
     let start = at-number.before.before.before.before.before.before.before.before in
     let a = start.args in
     let x = number.place in
-    can-count a.ks.now a.s.now a.starts.now a.places.now a.routines.now a.m start.requires _
+    can_count a.ks.now a.s.now a.starts.now a.places.now a.routines.now a.m start.requires _
     (omega arith)
 
 cast-put-byte-2 : tie.Need-overflow-cast-put-byte-2
@@ -82,7 +82,7 @@ put-bodies-requires c κs =
     let y = counts.place in
     let z = low.place in
     let w = high.place in
-    can-at a.ks.now a.s.now a.starts.now a.places.now a.routines.now a.m start.requires _
+    can_at a.ks.now a.s.now a.starts.now a.places.now a.routines.now a.m start.requires _
     (omega arith)
 
 same_length : tie.Need-same-length
@@ -102,11 +102,11 @@ returns c =
     let number = at-number.put_byte.ensures in
     let start = at-number.before.before.before.before.before.before.before.before in
     let a = start.args in
-    table-written a.ks.now a.s.now a.starts.now a.places.now a.routines.now a.m start.requires
+    table_written a.ks.now a.s.now a.starts.now a.places.now a.routines.now a.m start.requires
     number counts low high bodies
 
-pub put-table-spec : {M : Type 1} → statement M
-put-table-spec =
+pub put_table_spec : {M : Type 1} → statement M
+put_table_spec =
     tie.close
     (tie.spec
     cast-put-byte

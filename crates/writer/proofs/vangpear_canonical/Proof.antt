@@ -1,7 +1,7 @@
 -- `vangpear_canonical` meets its contract: it gives the number of what `canonical` answers.
 use mathlib.Core.Path.{sym, ap}
-use Rattle.writer.specs.Answer.{writtenNumber}
-use Rattle.writer.specs.laws.Fits.{small-length, small-refusal}
+use Rattle.writer.specs.Answer.{written_number}
+use Rattle.writer.specs.Laws.Fits.{small_length, small_refusal}
 use borrow.Author.Rules.{rules}
 use Rattle.writer.proofs.vangpear_canonical.Statement.{statement}
 use Rattle.writer.proofs.vangpear_canonical.Tie as tie
@@ -15,13 +15,13 @@ enum-known-n c = search rules
 cast-result : tie.Need-overflow-cast-result
 cast-result c =
     let wrote = c.before.before.before.before.before.canonical in
-    let h = small-length wrote.result c.before.n.given.0.0 wrote.ensures.1 c.before.n.given.1 in
+    let h = small_length wrote.result c.before.n.given.0.0 wrote.ensures.1 c.before.n.given.1 in
     search rules
 
 add-result : tie.Need-overflow-add-result
 add-result c =
     let wrote = c.before.before.before.before.before.canonical in
-    let h = small-length wrote.result c.before.n.given.0.0 wrote.ensures.1 c.before.n.given.1 in
+    let h = small_length wrote.result c.before.n.given.0.0 wrote.ensures.1 c.before.n.given.1 in
     search rules
 
 enum-known-e : tie.Need-enum-known-e
@@ -30,7 +30,7 @@ enum-known-e c = search rules
 cast-result-2 : tie.Need-overflow-cast-result-2
 cast-result-2 c =
     let wrote = c.before.before.before.before.before.canonical in
-    let h = small-refusal wrote.result c.before.e.given.0.0 wrote.ensures.1 c.before.e.given.1 in
+    let h = small_refusal wrote.result c.before.e.given.0.0 wrote.ensures.1 c.before.e.given.1 in
     search rules
 
 same_length : tie.Need-same-length
@@ -39,7 +39,7 @@ same_length c = search rules
 returns : tie.Need-returns
 returns c =
     let wrote = c.before.before.before.before.before.canonical in
-    (wrote.result, sym (ap writtenNumber c.before.n.given.1), wrote.ensures.1, wrote.ensures.0)
+    (wrote.result, sym (ap written_number c.before.n.given.1), wrote.ensures.1, wrote.ensures.0)
 
 same-length-2 : tie.Need-same-length-2
 same-length-2 c = search rules
@@ -47,10 +47,10 @@ same-length-2 c = search rules
 returns-2 : tie.Need-returns-2
 returns-2 c =
     let wrote = c.before.before.before.before.before.canonical in
-    (wrote.result, sym (ap writtenNumber c.before.e.given.1), wrote.ensures.1, wrote.ensures.0)
+    (wrote.result, sym (ap written_number c.before.e.given.1), wrote.ensures.1, wrote.ensures.0)
 
-pub vangpear-canonical-spec : {M : Type 1} → statement M
-vangpear-canonical-spec =
+pub vangpear_canonical_spec : {M : Type 1} → statement M
+vangpear_canonical_spec =
     tie.close
     (tie.spec
     canonical-requires

@@ -1,8 +1,8 @@
 -- `write` meets its contract: a survey tells where the bodies start.
 use mathlib.Core.Path.{refl}
 use native.Mathlib.Omega.{arith}
-use Rattle.table.specs.laws.Sections.{few}
-use Rattle.settle.specs.laws.Surveys.{cut-surveyed}
+use Rattle.table.specs.Laws.Sections.{few}
+use Rattle.settle.specs.Laws.Surveys.{cut_surveyed}
 use Rattle.writer.proofs.AnswerLaws.{holds_at}
 use borrow.Author.Rules.{rules}
 use Rattle.writer.proofs.write.Statement.{statement}
@@ -25,7 +25,7 @@ part-write-at-end c =
     let surveyed = at-surveyed.survey-bodies in
     let start = at-surveyed.before.before.before.before.before.before in
     let f = few start.args.ks.now start.args.s.now start.requires in
-    let o = surveyed.ensures.starts-long in
+    let o = surveyed.ensures.starts_long in
     omega arith
 
 write-at-requires : tie.Need-write-at-requires
@@ -37,7 +37,7 @@ write-at-requires c κs =
     let p = start.requires in (
       p.0,
       holds_at p.0 a.ks.now a.s.now _ _ p.1
-          (cut-surveyed a.ks.now a.s.now surveyed.new.1.1.0 surveyed.new.1.1.1.0
+          (cut_surveyed a.ks.now a.s.now surveyed.new.1.1.0 surveyed.new.1.1.1.0
           surveyed.ensures p.0 p.1),
     )
 
@@ -53,7 +53,7 @@ returns c =
     let start = at-surveyed.before.before.before.before.before.before in
     let a = start.args in (
       λ P h. wrote.ensures.0 P (holds_at P a.ks.now a.s.now _ _ h
-          (cut-surveyed a.ks.now a.s.now surveyed.new.1.1.0 surveyed.new.1.1.1.0
+          (cut_surveyed a.ks.now a.s.now surveyed.new.1.1.0 surveyed.new.1.1.1.0
           surveyed.ensures P h)),
       wrote.ensures.1,
     )

@@ -1,5 +1,5 @@
 -- `write_accepted` meets its contract: the sections of the table are handed on.
-use Rattle.writer.proofs.AnswerLaws.{writes-accepted}
+use Rattle.writer.proofs.AnswerLaws.{writes_accepted}
 use borrow.Author.Rules.{rules}
 use Rattle.writer.proofs.write_accepted.Statement.{statement}
 use Rattle.writer.proofs.write_accepted.Tie as tie
@@ -41,13 +41,13 @@ returns c =
     let start = at-wrote.before.before.before.before.before.before in
     let a = start.args in
     let t = start.requires in (
-      writes-accepted a.table.now a.n t _ _ a.out.now wrote.new.1.1.0 wrote.result t.holds
+      writes_accepted a.table.now a.n t _ _ a.out.now wrote.new.1.1.0 wrote.result t.holds
           wrote.ensures.0,
       wrote.ensures.1,
     )
 
-pub write-accepted-spec : {M : Type 1} → statement M
-write-accepted-spec =
+pub write_accepted_spec : {M : Type 1} → statement M
+write_accepted_spec =
     tie.close
     (tie.spec
     add-write

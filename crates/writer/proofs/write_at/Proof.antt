@@ -3,7 +3,7 @@ use mathlib.Core.Path.{◌≡◌}
 use Prim.Native.Nat.{◌+◌, ◌-◌, ◌≤◌}
 use native.Mathlib.Omega.{arith}
 use lib.ListN.{length}
-use Rattle.writer.proofs.WriteLaws.{ready, small, too_short, all-written}
+use Rattle.writer.proofs.WriteLaws.{ready, small, too_short, all_written}
 use borrow.Author.Rules.{rules}
 use Rattle.writer.proofs.write_at.Statement.{statement}
 use Rattle.writer.proofs.write_at.Tie as tie
@@ -67,13 +67,13 @@ returns-2 c =
     let start = at-found.before.before.before.before.before in
     let a = start.args in
     let room : 3 + found.result.count + found.result.bytes ≤ length a.out.now = tested.if1.false in (
-      all-written a.ks.now a.s.now a.starts.now found.result start.requires found.ensures _ _ room
+      all_written a.ks.now a.s.now a.starts.now found.result start.requires found.ensures _ _ room
           table.ensures,
       small a.ks.now a.s.now a.starts.now found.result start.requires found.ensures,
     )
 
-pub write-at-spec : {M : Type 1} → statement M
-write-at-spec =
+pub write_at_spec : {M : Type 1} → statement M
+write_at_spec =
     tie.close
     (tie.spec
     discover-requires

@@ -1,7 +1,7 @@
 -- `judgement_of` meets its contract: verdict and share are read off the routines that calls reach.
 use mathlib.Core.Path.{refl}
 use native.Mathlib.Omega.{arith}
-use Rattle.analysis.proofs.VerdictLaws.{rows-there, can-reach, some-counted, pronounced}
+use Rattle.analysis.proofs.VerdictLaws.{rows_there, can_reach, some_counted, pronounced}
 use borrow.Author.Rules.{rules}
 use Rattle.analysis.proofs.judging.judgement_of.Statement.{statement}
 use Rattle.analysis.proofs.judging.judgement_of.Tie as tie
@@ -9,12 +9,12 @@ use Rattle.analysis.proofs.judging.judgement_of.Tie as tie
 reached-requires : tie.Need-reached-requires
 reached-requires c κs =
     let start = c.before.before in
-    can-reach start.args.calls.now start.args.model.now start.args.names start.requires
+    can_reach start.args.calls.now start.args.model.now start.args.names start.requires
 
 ring-rows-requires : tie.Need-ring-rows-requires
 ring-rows-requires c κs =
     let start = c.before.before.before in
-    rows-there start.args.calls.now start.args.model.now start.args.names start.requires
+    rows_there start.args.calls.now start.args.model.now start.args.names start.requires
 
 verdict-of-requires : tie.Need-verdict-of-requires
 verdict-of-requires c κs = search rules
@@ -30,7 +30,7 @@ share-of-requires c κs =
     let found = c.before.before.before in
     let reach = found.before in
     let start = reach.before.before.before in
-    let some = some-counted start.args.calls.now start.args.model.now start.args.names
+    let some = some_counted start.args.calls.now start.args.model.now start.args.names
     reach.reached.result found.ring-rows.result reach.reached.ensures found.ring-rows.ensures
     reach.reached.type-inv found.ring-rows.type-inv start.requires in
     (c.before.count.ensures.1, omega (arith, c.count2.ensures.0))
@@ -50,8 +50,8 @@ returns c =
       refl,
     )
 
-pub judgement-of-spec : {M : Type 1} → statement M
-judgement-of-spec =
+pub judgement_of_spec : {M : Type 1} → statement M
+judgement_of_spec =
     tie.close
     (tie.spec
     reached-requires

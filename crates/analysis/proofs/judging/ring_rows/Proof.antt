@@ -3,8 +3,8 @@ use mathlib.Core.Path.{◌≡◌}
 use mathlib.Core.Logic.{⊎_elim}
 use Prim.Native.Nat.{◌-◌, ◌≤◌}
 use native.Mathlib.Omega.{arith}
-use Rattle.analysis.specs.laws.Judging.{RingRow}
-use Rattle.settle.specs.laws.Masks.{top-fits, Gathered, gathered_none, gathered-more, gathered-same}
+use Rattle.analysis.specs.Laws.Judging.{RingRow}
+use Rattle.settle.specs.Laws.Masks.{top_fits, Gathered, gathered_none, gathered_more, gathered_same}
 use borrow.Author.Rules.{rules}
 use Rattle.analysis.proofs.judging.ring_rows.Statement.{statement}
 use Rattle.analysis.proofs.judging.ring_rows.Tie as tie
@@ -37,7 +37,7 @@ add-rings : tie.Need-overflow-add-rings invariant-loop decreases-loop
 add-rings c =
     let l = c.before.before.before.before.loop in
     record {
-      fits = top-fits l.rings l.r l.invariant.0.below
+      fits = top_fits l.rings l.r l.invariant.0.below
           (let p = c.before.before.before.before.before.requires.0 in omega arith);
     }
 
@@ -54,11 +54,11 @@ loop-again c =
     let l = c.before.before.loop in
     let few = start.requires.0 in (
       ⊎_elim
-          (λ w. gathered-more told l.r l.rings c.if1.rings (omega arith) (w.0.taken, w.2.taken) w.3
+          (λ w. gathered_more told l.r l.rings c.if1.rings (omega arith) (w.0.taken, w.2.taken) w.3
           l.invariant.0)
           (λ v. ⊎_elim
-          (λ w. gathered-same told l.r l.rings c.if1.rings (λ h. w.2.left h.1) w.3 l.invariant.0)
-          (λ w. gathered-same told l.r l.rings c.if1.rings (λ h. w.0.left h.0) w.1 l.invariant.0)
+          (λ w. gathered_same told l.r l.rings c.if1.rings (λ h. w.2.left h.1) w.3 l.invariant.0)
+          (λ w. gathered_same told l.r l.rings c.if1.rings (λ h. w.0.left h.0) w.1 l.invariant.0)
           v)
           c.if1.branch,
       omega arith,
@@ -70,8 +70,8 @@ returns c =
     let e : l.r ≡ c.before.before.args.n = omega (arith, l.invariant.1) in
     rw e at l.invariant.0.bits
 
-pub ring-rows-spec : {M : Type 1} → statement M
-ring-rows-spec =
+pub ring_rows_spec : {M : Type 1} → statement M
+ring_rows_spec =
     tie.close
     (tie.spec
     invariant-loop

@@ -30,7 +30,7 @@ loop-again c = search rules
 returns : tie.Need-returns invariant-loop decreases-loop
 returns c = search rules
 
-pub routine-at-spec : {M : Type 1} → statement M
-routine-at-spec =
+pub routine_at_spec : {M : Type 1} → statement M
+routine_at_spec =
     tie.close
     (tie.spec invariant-loop decreases-loop least-requires loop-holds past-requires loop-less loop-again returns)

@@ -3,13 +3,13 @@ use Prim.Native.Nat.{◌≤◌, ◌-◌}
 use mathlib.Core.Path.{◌≡◌}
 use lib.ListN.{length}
 use Rattle.desk.proofs.Laws.{take_whole}
-use Rattle.desk.specs.Sizes.{line-bytes}
+use Rattle.desk.specs.Sizes.{line_bytes}
 use borrow.Author.Rules.{rules}
 use Rattle.desk.proofs.text.put.Statement.{statement}
 use Rattle.desk.proofs.text.put.Tie as tie
 
 abbrev invariant-loop : tie.invariant-loop
-invariant-loop out₀ at w i₀ out i = (i ≤ length w) × (length out ≡ line-bytes)
+invariant-loop out₀ at w i₀ out i = (i ≤ length w) × (length out ≡ line_bytes)
 
 abbrev decreases-loop : tie.decreases-loop
 decreases-loop out₀ at w i₀ out i = length w - i

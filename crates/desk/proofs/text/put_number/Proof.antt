@@ -1,5 +1,5 @@
 -- `put_number` meets its contract: a number has few digits, so that it has room.
-use Rattle.desk.proofs.Laws.{few-digits}
+use Rattle.desk.proofs.Laws.{few_digits}
 use native.Mathlib.Omega.{arith}
 use borrow.Author.Rules.{rules}
 use Rattle.desk.proofs.text.put_number.Statement.{statement}
@@ -25,7 +25,7 @@ put-requires-2 c κs =
     let at-decimal = c.before.before.before.before.before in
     let start = at-decimal.before.before in
     let few =
-    few-digits start.args.n at-decimal.decimal.result (omega (arith, start.ranges.n))
+    few_digits start.args.n at-decimal.decimal.result (omega (arith, start.ranges.n))
     at-decimal.decimal.ensures.1.0.2 in
     search (rules, few)
 
@@ -34,12 +34,12 @@ returns c =
     let at-decimal = c.before.before.before.before.before.before in
     let start = at-decimal.before.before in
     let few =
-    few-digits start.args.n at-decimal.decimal.result (omega (arith, start.ranges.n))
+    few_digits start.args.n at-decimal.decimal.result (omega (arith, start.ranges.n))
     at-decimal.decimal.ensures.1.0.2 in
     search (rules, few)
 
-pub put-number-spec : {M : Type 1} → statement M
-put-number-spec =
+pub put_number_spec : {M : Type 1} → statement M
+put_number_spec =
     tie.close
     (tie.spec
     decimal-requires

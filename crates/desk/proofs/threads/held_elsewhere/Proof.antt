@@ -1,12 +1,12 @@
 -- `held_elsewhere` is safe and ends: the measure is how many threads are left.
 use Prim.Native.Nat.{◌≤◌, ◌-◌}
-use Rattle.schedule.specs.Limits.{most-threads}
+use Rattle.schedule.specs.Limits.{most_threads}
 use borrow.Author.Rules.{rules}
 use Rattle.desk.proofs.threads.held_elsewhere.Statement.{statement}
 use Rattle.desk.proofs.threads.held_elsewhere.Tie as tie
 
 abbrev invariant-loop : tie.invariant-loop
-invariant-loop n i l d most j₀ j = (j ≤ most) × (most ≤ most-threads)
+invariant-loop n i l d most j₀ j = (j ≤ most) × (most ≤ most_threads)
 
 abbrev decreases-loop : tie.decreases-loop
 decreases-loop n i l d most j₀ j = most - j
@@ -41,8 +41,8 @@ loop-again c = search rules
 returns-2 : tie.Need-returns-2 invariant-loop decreases-loop
 returns-2 c = search rules
 
-pub held-elsewhere-spec : {M : Type 1} → statement M
-held-elsewhere-spec =
+pub held_elsewhere_spec : {M : Type 1} → statement M
+held_elsewhere_spec =
     tie.close
     (tie.spec
     invariant-loop

@@ -1,15 +1,15 @@
 -- `write_holds` is safe and ends: the measure is how many locks are left.
 use Prim.Native.Nat.{◌≤◌, ◌-◌}
-use Rattle.schedule.specs.Limits.{most-locks}
+use Rattle.schedule.specs.Limits.{most_locks}
 use borrow.Author.Rules.{rules}
 use Rattle.desk.proofs.threads.write_holds.Statement.{statement}
 use Rattle.desk.proofs.threads.write_holds.Tie as tie
 
 abbrev invariant-loop : tie.invariant-loop
-invariant-loop t i l₀ l = l ≤ most-locks
+invariant-loop t i l₀ l = l ≤ most_locks
 
 abbrev decreases-loop : tie.decreases-loop
-decreases-loop t i l₀ l = most-locks - l
+decreases-loop t i l₀ l = most_locks - l
 
 loop-holds : tie.Need-loop-init invariant-loop decreases-loop
 loop-holds c = search rules
@@ -35,8 +35,8 @@ loop-again c = search rules
 returns-2 : tie.Need-returns-2 invariant-loop decreases-loop
 returns-2 c = search rules
 
-pub write-holds-spec : {M : Type 1} → statement M
-write-holds-spec =
+pub write_holds_spec : {M : Type 1} → statement M
+write_holds_spec =
     tie.close
     (tie.spec
     invariant-loop

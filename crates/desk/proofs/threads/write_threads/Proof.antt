@@ -1,12 +1,12 @@
 -- `write_threads` is safe and ends: the measure is how many threads are left.
 use Prim.Native.Nat.{◌≤◌, ◌-◌}
-use Rattle.schedule.specs.Limits.{most-threads}
+use Rattle.schedule.specs.Limits.{most_threads}
 use borrow.Author.Rules.{rules}
 use Rattle.desk.proofs.threads.write_threads.Statement.{statement}
 use Rattle.desk.proofs.threads.write_threads.Tie as tie
 
 abbrev invariant-loop : tie.invariant-loop
-invariant-loop ks s n d most i₀ i = (i ≤ most) × (most ≤ most-threads)
+invariant-loop ks s n d most i₀ i = (i ≤ most) × (most ≤ most_threads)
 
 abbrev decreases-loop : tie.decreases-loop
 decreases-loop ks s n d most i₀ i = most - i
@@ -41,8 +41,8 @@ loop-again c = search rules
 returns-2 : tie.Need-returns-2 invariant-loop decreases-loop
 returns-2 c = search rules
 
-pub write-threads-spec : {M : Type 1} → statement M
-write-threads-spec =
+pub write_threads_spec : {M : Type 1} → statement M
+write_threads_spec =
     tie.close
     (tie.spec
     invariant-loop

@@ -36,7 +36,7 @@ returns c =
       c.put-plane.ensures.1,
     )
 
-pub close-all-spec : {M : Type 1} → statement M
-close-all-spec =
+pub close_all_spec : {M : Type 1} → statement M
+close_all_spec =
     tie.close
     (tie.spec planes-requires several-requires put-named-requires put-plane-requires returns)

@@ -1,7 +1,7 @@
 -- `close_in` meets its contract: nothing follows where there is no pair, and no mix where there is one named label.
 use native.Mathlib.Omega.{arith}
 use borrow.Author.Rules.{rules}
-use Rattle.grid.proofs.Closed.{none-grown, one-grown}
+use Rattle.grid.proofs.Closed.{none-grown, one_grown}
 use Rattle.grid.proofs.closing.close_in.Statement.{statement}
 use Rattle.grid.proofs.closing.close_in.Tie as tie
 
@@ -34,7 +34,7 @@ returns-2 c =
     let v = n.before in
     let g = v.before.before.args.g.now in
     let w = c.close-one.ensures in (
-      one-grown g v.row-labels.result n.any.result o.sole.result v.row-labels.ensures n.any.ensures
+      one_grown g v.row-labels.result n.any.result o.sole.result v.row-labels.ensures n.any.ensures
           (omega arith) o.sole.ensures _ w.0,
       w.1,
     )
@@ -45,8 +45,8 @@ close-all-requires c κs = search rules
 returns-3 : tie.Need-returns-3
 returns-3 c = search rules
 
-pub close-in-spec : {M : Type 1} → statement M
-close-in-spec =
+pub close_in_spec : {M : Type 1} → statement M
+close_in_spec =
     tie.close
     (tie.spec
     row-labels-requires

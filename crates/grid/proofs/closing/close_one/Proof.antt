@@ -20,5 +20,5 @@ returns c =
     let w = c.put-Walks.ensures in
     (walks_same (Edge p.plane.result) (Labelled a.g.now a.l) a.l p.plane.ensures w.0, w.1)
 
-pub close-one-spec : {M : Type 1} → statement M
-close-one-spec = tie.close (tie.spec plane-requires put-walks-requires returns)
+pub close_one_spec : {M : Type 1} → statement M
+close_one_spec = tie.close (tie.spec plane-requires put-walks-requires returns)

@@ -8,7 +8,7 @@ use Rattle.rules.specs.Label.{unknown}
 use Rattle.rules.specs.Number.{number, labels}
 use Rattle.grid.specs.Grid.{Proper}
 use Rattle.grid.specs.Planes.{Grown, InPlanes}
-use Rattle.grid.proofs.Growing.{grown-none, planes-more, planes-skip}
+use Rattle.grid.proofs.Growing.{grown_none, planes-more, planes-skip}
 use Rattle.grid.proofs.closing.put_named.Statement.{statement}
 use Rattle.grid.proofs.closing.put_named.Tie as tie
 
@@ -19,7 +19,7 @@ abbrev decreases-loop : tie.decreases-loop
 decreases-loop g₀ p c l₀ g l = labels - l
 
 loop-holds : tie.Need-loop-init invariant-loop decreases-loop
-loop-holds c = (omega arith, c.requires.0, grown-none (λ a b k p. let z = p.0 in omega arith))
+loop-holds c = (omega arith, c.requires.0, grown_none (λ a b k p. let z = p.0 in omega arith))
 
 cast-if1 : tie.Need-overflow-cast-if1 invariant-loop decreases-loop
 cast-if1 c = search rules
@@ -69,8 +69,8 @@ returns c =
     let e : l.l ≡ number unknown = omega arith in
     (rw e at l.invariant.2, l.invariant.1)
 
-pub put-named-spec : {M : Type 1} → statement M
-put-named-spec =
+pub put_named_spec : {M : Type 1} → statement M
+put_named_spec =
     tie.close
     (tie.spec
     invariant-loop

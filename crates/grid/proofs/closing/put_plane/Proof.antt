@@ -9,11 +9,11 @@ use borrow.Author.Rules.{rules, elem_Fits}
 use Rattle.grid.specs.Rows.{Edge, Or, Same}
 use Rattle.grid.specs.Grid.{Proper}
 use Rattle.grid.specs.Planes.{InPlane}
-use Rattle.grid.specs.laws.Masks.{has-zero, bits-one}
-use Rattle.grid.specs.laws.Square.{square-put}
+use Rattle.grid.specs.Laws.Masks.{has_zero, bits_one}
+use Rattle.grid.specs.Laws.Square.{square-put}
 use Rattle.grid.proofs.Relations.{same_or}
-use Rattle.grid.proofs.Growing.{grown-none, small_put}
-use Rattle.grid.proofs.Shapes.{edge-column, cell_row}
+use Rattle.grid.proofs.Growing.{grown_none, small_put}
+use Rattle.grid.proofs.Shapes.{edge_column, cell_row}
 use Rattle.grid.proofs.Loops.{Passed, passed_none, passed-more, passed-skip, grid-all}
 use Rattle.grid.proofs.closing.put_plane.Statement.{statement}
 use Rattle.grid.proofs.closing.put_plane.Tie as tie
@@ -31,7 +31,7 @@ any-requires c κs = search rules
 returns : tie.Need-returns invariant-loop decreases-loop
 returns c =
     let s = c.before.before in (
-      grown-none (λ a b k p. has-zero a (rw c.if1.true at (c.before.any.ensures.from a (b, p.1)))),
+      grown_none (λ a b k p. has_zero a (rw c.if1.true at (c.before.any.ensures.from a (b, p.1)))),
       s.requires.1,
     )
 
@@ -77,7 +77,7 @@ loop-again c =
     let v = c.before.before.before.before.any in
     let a = c.before.before.before.before.before.args in
     let g = a.g.now in
-    let one = bits-one a.l (omega arith) in
+    let one = bits_one a.l (omega arith) in
     ⊎_elim
     (λ w.
     let s : Same (Edge w.2.result) (Or (Edge (get_or l.g l.i [])) (InPlane a.q a.l l.i)) =
@@ -111,13 +111,13 @@ returns-2 c =
         row = grid-all _ _ _ _ l.invariant.1 (omega arith)
             (λ a b k. ⊎_elim
             (λ p. cell_row s.args.g.now 16 a b k s.requires.1.0.rows p)
-            (λ p. edge-column q _ s.well-formed.1.0.1.1 b a p.1));
+            (λ p. edge_column q _ s.well_formed.1.0.1.1 b a p.1));
       },
       l.invariant.0,
     )
 
-pub put-plane-spec : {M : Type 1} → statement M
-put-plane-spec =
+pub put_plane_spec : {M : Type 1} → statement M
+put_plane_spec =
     tie.close
     (tie.spec
     invariant-loop

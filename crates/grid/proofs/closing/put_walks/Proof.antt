@@ -28,7 +28,7 @@ returns c =
       c.put-plane.ensures.1,
     )
 
-pub put-walks-spec : {M : Type 1} → statement M
-put-walks-spec =
+pub put_walks_spec : {M : Type 1} → statement M
+put_walks_spec =
     tie.close
     (tie.spec close-rows-requires apart-requires less-requires put-plane-requires returns)

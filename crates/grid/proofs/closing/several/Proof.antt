@@ -3,8 +3,8 @@ use Prim.Native.Nat.{ℕ}
 use borrow.Author.Rules.{rules}
 use Rattle.grid.specs.Rows.{Rel, Edge, Then, Walk, Star, Same}
 use Rattle.grid.specs.Planes.{Chosen, Plane}
-use Rattle.grid.specs.laws.Masks.{has-zero}
-use Rattle.grid.proofs.Relations.{same_then, same-walk, star-left, star-right}
+use Rattle.grid.specs.Laws.Masks.{has_zero}
+use Rattle.grid.proofs.Relations.{same_then, same_walk, star_left, star_right}
 use Rattle.grid.proofs.closing.several.Statement.{statement}
 use Rattle.grid.proofs.closing.several.Tie as tie
 
@@ -18,7 +18,7 @@ returns : tie.Need-returns
 returns c =
     let m = c.before.before.mixed in
     let none : (i j : ℕ) → Edge m.result i j → ⊥ =
-    λ i j e. has-zero j (rw c.if1.true at (c.before.any.ensures.from j (i, e))) in
+    λ i j e. has_zero j (rw c.if1.true at (c.before.any.ensures.from j (i, e))) in
     record {
       to = λ i j e. absurd (none i j e);
       from = λ i j p. absurd (none p.0 p.1 (m.ensures.from p.0 p.1 p.3));
@@ -49,10 +49,10 @@ returns-2 c =
       from = λ a b p. (p.0, p.1, s.requires p.0 p.1 a b p.2, p.2);
     } in
     let t : Same (Edge r.result) (Walk W) =
-    same_then _ _ _ r.ensures (same-walk _ _ (same_then _ _ _ e.ensures all)) in
+    same_then _ _ _ r.ensures (same_walk _ _ (same_then _ _ _ e.ensures all)) in
     let x : Same (Edge c.before.product.result) (Then (Star W) (Edge m.result)) =
-    star-left _ W t _ _ c.before.product.ensures in
-    let y = star-right _ W t _ _ c.product2.ensures in
+    star_left _ W t _ _ c.before.product.ensures in
+    let y = star_right _ W t _ _ c.product2.ensures in
     record {
       to = λ i j p.
           let q = y.to i j p in
@@ -61,8 +61,8 @@ returns-2 c =
       from = λ i j p. y.from i j (p.1, x.from i p.1 (p.0, p.2, m.ensures.from p.0 p.1 p.3), p.4);
     }
 
-pub several-spec : {M : Type 1} → statement M
-several-spec =
+pub several_spec : {M : Type 1} → statement M
+several_spec =
     tie.close
     (tie.spec
     mixed-requires

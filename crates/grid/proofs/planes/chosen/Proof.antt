@@ -8,8 +8,8 @@ use borrow.Author.Rules.{rules}
 use lib.ListN.{replicate}
 use Rattle.rules.specs.Number.{labels}
 use Rattle.grid.specs.Rows.{Has, Rel, Edge, Or, Same}
-use Rattle.grid.proofs.Relations.{Some, some-none, some_more, some-skip, same_or}
-use Rattle.grid.proofs.Shapes.{zero-edge}
+use Rattle.grid.proofs.Relations.{Some, some_none, some_more, some-skip, same_or}
+use Rattle.grid.proofs.Shapes.{zero_edge}
 use Rattle.grid.proofs.planes.chosen.Statement.{statement}
 use Rattle.grid.proofs.planes.chosen.Tie as tie
 
@@ -21,7 +21,7 @@ abbrev decreases-loop : tie.decreases-loop
 decreases-loop p c next₀ l₀ next l = labels - l
 
 loop-holds : tie.Need-loop-init invariant-loop decreases-loop
-loop-holds c = (omega arith, some-none _ _)
+loop-holds c = (omega arith, some_none _ _)
 
 cast-if1 : tie.Need-overflow-cast-if1 invariant-loop decreases-loop
 cast-if1 c = search rules
@@ -65,14 +65,14 @@ returns c =
     record {
       to = λ i j p.
           ⊎_elim
-          (λ q. absurd (zero-edge 16 i j q))
+          (λ q. absurd (zero_edge 16 i j q))
           (λ q. (q.0, (let z = q.1 in omega arith), q.2.0, q.2.1))
           (s.to i j p);
       from = λ i j p. s.from i j (inr (p.0, (let z = p.1 in omega arith), (p.2, p.3)));
     }
 
-pub chosen-spec : {M : Type 1} → statement M
-chosen-spec =
+pub chosen_spec : {M : Type 1} → statement M
+chosen_spec =
     tie.close
     (tie.spec
     invariant-loop

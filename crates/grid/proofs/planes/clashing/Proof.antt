@@ -3,8 +3,8 @@ use mathlib.Core.Path.{sym, ap, ◌∙◌}
 use native.Mathlib.Omega.{arith}
 use borrow.Author.Rules.{rules}
 use Rattle.rules.specs.Number.{number}
-use Rattle.grid.specs.laws.Masks.{bits-self, bits-map, bits-less}
-use Rattle.grid.specs.laws.Labels.{others-clash, all-clash}
+use Rattle.grid.specs.Laws.Masks.{bits_self, bits_map, bits_less}
+use Rattle.grid.specs.Laws.Labels.{others_clash, all_clash}
 use Rattle.grid.proofs.planes.clashing.Statement.{statement}
 use Rattle.grid.proofs.planes.clashing.Tie as tie
 
@@ -17,10 +17,10 @@ cast-if1 c = search rules
 returns : tie.Need-returns
 returns c =
     let a = c.before.before.args in
-    bits-map
-    (λ m h. (h, all-clash a.l (sym c.before.combine.ensures ∙ c.if1.true) m))
+    bits_map
+    (λ m h. (h, all_clash a.l (sym c.before.combine.ensures ∙ c.if1.true) m))
     (λ m p. p.0)
-    (bits-self a.c)
+    (bits_self a.c)
 
 cast-result : tie.Need-overflow-cast-result
 cast-result c = search rules
@@ -37,13 +37,13 @@ shl-result c = search rules
 returns-2 : tie.Need-returns-2
 returns-2 c =
     let a = c.before.before.args in
-    bits-map
-    (λ m p. (p.1, others-clash a.l m p.0))
+    bits_map
+    (λ m p. (p.1, others_clash a.l m p.0))
     (λ m p. (λ e. c.if1.false (c.before.combine.ensures ∙ ap number (rw (sym e) at p.1)), p.0))
-    (bits-less a.c a.l (omega arith))
+    (bits_less a.c a.l (omega arith))
 
-pub clashing-spec : {M : Type 1} → statement M
-clashing-spec =
+pub clashing_spec : {M : Type 1} → statement M
+clashing_spec =
     tie.close
     (tie.spec
     combine-requires

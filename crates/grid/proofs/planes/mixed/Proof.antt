@@ -9,7 +9,7 @@ use Rattle.rules.specs.Label.{several}
 use Rattle.rules.specs.Number.{number, labels}
 use Rattle.grid.specs.Rows.{Rel, Edge, Or, Then, Same}
 use Rattle.grid.specs.Planes.{Other}
-use Rattle.grid.proofs.Relations.{Some, some-none, some_more, some-skip, same_or}
+use Rattle.grid.proofs.Relations.{Some, some_none, some_more, some-skip, same_or}
 use Rattle.grid.proofs.planes.mixed.Statement.{statement}
 use Rattle.grid.proofs.planes.mixed.Tie as tie
 
@@ -24,7 +24,7 @@ element-copy-out-next : tie.Need-element-copy-out-next invariant-loop decreases-
 element-copy-out-next c = search rules
 
 loop-holds : tie.Need-loop-init invariant-loop decreases-loop
-loop-holds c = (omega arith, some-none _ _)
+loop-holds c = (omega arith, some_none _ _)
 
 cast-if1 : tie.Need-overflow-cast-if1 invariant-loop decreases-loop
 cast-if1 c = search rules
@@ -86,8 +86,8 @@ returns c =
       from = λ i j p. s.from i j (⊎_elim (λ q. inl q) (λ q. inr (q.0, (let z = q.1 in omega arith), q.2)) p);
     }
 
-pub mixed-spec : {M : Type 1} → statement M
-mixed-spec =
+pub mixed_spec : {M : Type 1} → statement M
+mixed_spec =
     tie.close
     (tie.spec
     invariant-loop

@@ -7,9 +7,9 @@ use borrow.Author.Rules.{rules}
 use lib.ListN.{replicate}
 use Rattle.grid.specs.Rows.{Has, Rel, Edge, Or, Same}
 use Rattle.grid.specs.Grid.{cell}
-use Rattle.grid.specs.laws.Masks.{bits-one}
-use Rattle.grid.proofs.Relations.{Some, some-none, some_more, some-skip, same_or}
-use Rattle.grid.proofs.Shapes.{zero-edge, edge_row}
+use Rattle.grid.specs.Laws.Masks.{bits_one}
+use Rattle.grid.proofs.Relations.{Some, some_none, some_more, some-skip, same_or}
+use Rattle.grid.proofs.Shapes.{zero_edge, edge_row}
 use Rattle.grid.proofs.planes.plane.Statement.{statement}
 use Rattle.grid.proofs.planes.plane.Tie as tie
 
@@ -21,7 +21,7 @@ abbrev decreases-loop : tie.decreases-loop
 decreases-loop g l u next₀ i₀ next i = 16 - i
 
 loop-holds : tie.Need-loop-init invariant-loop decreases-loop
-loop-holds c = (omega arith, some-none _ _)
+loop-holds c = (omega arith, some_none _ _)
 
 mul-m : tie.Need-overflow-mul-m invariant-loop decreases-loop
 mul-m c = search rules
@@ -61,7 +61,7 @@ loop-again c =
     let l = c.before.before.loop in
     let s = c.before.before.before in
     let F : ℕ → Rel = λ n b a. Has (cell s.args.g.now n b) s.args.l × (a ≡ n) in
-    let one = bits-one l.i (omega arith) in (
+    let one = bits_one l.i (omega arith) in (
       omega arith,
       ⊎_elim
           (λ w. rw w.3
@@ -82,14 +82,14 @@ returns c =
     let m = s.args.l in
     let t = c.before.loop.invariant.1 in
     record {
-      to = λ b a p. ⊎_elim (λ q. absurd (zero-edge 16 b a q)) (λ q. rw q.2.1 q.2.0) (t.to b a p);
+      to = λ b a p. ⊎_elim (λ q. absurd (zero_edge 16 b a q)) (λ q. rw q.2.1 q.2.0) (t.to b a p);
       from = λ b a p.
-          let h : a < 16 = edge_row s.args.t2 16 a m s.well-formed.1.0.1.0.1 (s.requires.1.from a m (b, p)) in
+          let h : a < 16 = edge_row s.args.t2 16 a m s.well_formed.1.0.1.0.1 (s.requires.1.from a m (b, p)) in
           t.from b a (inr (a, omega arith, (p, refl)));
     }
 
-pub plane-spec : {M : Type 1} → statement M
-plane-spec =
+pub plane_spec : {M : Type 1} → statement M
+plane_spec =
     tie.close
     (tie.spec
     invariant-loop

@@ -8,7 +8,7 @@ use borrow.Author.Rules.{rules}
 use Rattle.rules.specs.Number.{labels}
 use Rattle.grid.specs.Rows.{Edge, Same}
 use Rattle.grid.specs.Planes.{Labelled}
-use Rattle.grid.proofs.Shapes.{zero-pair}
+use Rattle.grid.proofs.Shapes.{zero_pair}
 use Rattle.grid.proofs.Loops.{Passed, passed_none, passed-more, passed-skip}
 use Rattle.grid.proofs.planes.planes.Statement.{statement}
 use Rattle.grid.proofs.planes.planes.Tie as tie
@@ -52,7 +52,7 @@ loop-again c =
     (λ w. rw w.1
     (passed-skip [] labels _ _ l.next l.l l.invariant (omega arith)
     (record {
-      to = λ i j e. absurd (zero-pair labels 16 l.l i j e);
+      to = λ i j e. absurd (zero_pair labels 16 l.l i j e);
       from = λ i j e. absurd (w.0.left (s.requires.1.from l.l (j, s.requires.0.from j l.l (i, e))));
     })))
     c.if1.branch
@@ -61,8 +61,8 @@ returns : tie.Need-returns invariant-loop decreases-loop
 returns c =
     λ l h. c.before.loop.invariant.done l (omega arith)
 
-pub planes-spec : {M : Type 1} → statement M
-planes-spec =
+pub planes_spec : {M : Type 1} → statement M
+planes_spec =
     tie.close
     (tie.spec
     invariant-loop

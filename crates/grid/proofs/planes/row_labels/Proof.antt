@@ -56,8 +56,8 @@ returns c =
     rows_all _ _ _ _ c.before.loop.invariant (omega arith)
     (λ a l p. cell_row s.args.g.now 16 a p.0 l s.requires.rows p.1)
 
-pub row-labels-spec : {M : Type 1} → statement M
-row-labels-spec =
+pub row_labels_spec : {M : Type 1} → statement M
+row_labels_spec =
     tie.close
     (tie.spec
     invariant-loop

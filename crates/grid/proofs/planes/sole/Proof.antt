@@ -2,7 +2,7 @@
 use native.Mathlib.Omega.{arith}
 use lib.Count.{count_trailing_zeros, trailing_le}
 use borrow.Author.Rules.{rules}
-use Rattle.grid.specs.laws.Masks.{bits-one}
+use Rattle.grid.specs.Laws.Masks.{bits_one}
 use Rattle.grid.proofs.planes.sole.Statement.{statement}
 use Rattle.grid.proofs.planes.sole.Tie as tie
 
@@ -18,7 +18,7 @@ shl-if2 c = search rules
 returns : tie.Need-returns
 returns c =
     let a = c.before.before.args in
-    λ h j p. (bits-one (count_trailing_zeros 16 a.c) (omega arith)).to j (rw c.if2.true at p)
+    λ h j p. (bits_one (count_trailing_zeros 16 a.c) (omega arith)).to j (rw c.if2.true at p)
 
 returns-2 : tie.Need-returns-2
 returns-2 c = λ h. absurd (omega arith)
@@ -26,5 +26,5 @@ returns-2 c = λ h. absurd (omega arith)
 returns-3 : tie.Need-returns-3
 returns-3 c = λ h. absurd (omega arith)
 
-pub sole-spec : {M : Type 1} → statement M
-sole-spec = tie.close (tie.spec cast-l cast-if2 shl-if2 returns returns-2 returns-3)
+pub sole_spec : {M : Type 1} → statement M
+sole_spec = tie.close (tie.spec cast-l cast-if2 shl-if2 returns returns-2 returns-3)

@@ -5,7 +5,7 @@ use native.Mathlib.Omega.{arith}
 use lib.ListN.{get_or}
 use borrow.Author.Rules.{rules}
 use Rattle.grid.specs.Rows.{Edge, Apart}
-use Rattle.grid.specs.laws.Masks.{bits-less}
+use Rattle.grid.specs.Laws.Masks.{bits_less}
 use Rattle.grid.proofs.Shapes.{edge_row}
 use Rattle.grid.proofs.Loops.{Passed, passed_none, passed-more, RowIs, rows_all}
 use Rattle.grid.proofs.rows.apart.Statement.{statement}
@@ -54,16 +54,16 @@ loop-again : tie.Need-loop-preserved invariant-loop decreases-loop
 loop-again c =
     let l = c.before.loop in
     passed-more 0 16 _ _ l.next l.i _ l.invariant (omega arith)
-    (bits-less (get_or c.before.before.args.t1 l.i 0) l.i (omega arith))
+    (bits_less (get_or c.before.before.args.t1 l.i 0) l.i (omega arith))
 
 returns : tie.Need-returns invariant-loop decreases-loop
 returns c =
     let b = c.before.before in
     rows_all _ _ _ _ c.before.loop.invariant (omega arith)
-    (λ i j p. edge_row b.args.t1 16 i j b.well-formed.0.1.0.1 p.1)
+    (λ i j p. edge_row b.args.t1 16 i j b.well_formed.0.1.0.1 p.1)
 
-pub apart-spec : {M : Type 1} → statement M
-apart-spec =
+pub apart_spec : {M : Type 1} → statement M
+apart_spec =
     tie.close
     (tie.spec
     invariant-loop

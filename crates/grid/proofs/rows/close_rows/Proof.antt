@@ -5,10 +5,10 @@ use Prim.Native.Nat.{◌≤◌, ◌-◌}
 use native.Mathlib.Omega.{arith}
 use borrow.Author.Rules.{rules}
 use Rattle.grid.specs.Rows.{Edge, Same}
-use Rattle.grid.specs.laws.Masks.{has-zero}
+use Rattle.grid.specs.Laws.Masks.{has_zero}
 use Rattle.grid.proofs.Relations.{same_refl}
-use Rattle.grid.proofs.Pivots.{Via, via-all, via-more, via-none}
-use Rattle.grid.proofs.Shapes.{edge-column}
+use Rattle.grid.proofs.Pivots.{Via, via_all, via_more, via_none}
+use Rattle.grid.proofs.Shapes.{edge_column}
 use Rattle.grid.proofs.rows.close_rows.Statement.{statement}
 use Rattle.grid.proofs.rows.close_rows.Tie as tie
 
@@ -42,8 +42,8 @@ loop-again c =
     let r = Edge c.before.before.before.args.r in (
       omega arith,
       ⊎_elim
-          (λ w. rw w.2 (via-more r (Edge l.next) _ l.k l.invariant.1 w.1.ensures))
-          (λ w. rw w.1 (via-none r (Edge l.next) l.k l.invariant.1 (λ j p. has-zero j (rw w.0.left at p))))
+          (λ w. rw w.2 (via_more r (Edge l.next) _ l.k l.invariant.1 w.1.ensures))
+          (λ w. rw w.1 (via_none r (Edge l.next) l.k l.invariant.1 (λ j p. has_zero j (rw w.0.left at p))))
           c.if1.branch,
     )
 
@@ -51,10 +51,10 @@ returns : tie.Need-returns invariant-loop decreases-loop
 returns c =
     let b = c.before.before in
     let e : c.before.loop.k ≡ 16 = omega arith in
-    via-all (Edge b.args.r) _ 16 (edge-column b.args.r _ b.well-formed.0.1.1) (rw e at c.before.loop.invariant.1)
+    via_all (Edge b.args.r) _ 16 (edge_column b.args.r _ b.well_formed.0.1.1) (rw e at c.before.loop.invariant.1)
 
-pub close-rows-spec : {M : Type 1} → statement M
-close-rows-spec =
+pub close_rows_spec : {M : Type 1} → statement M
+close_rows_spec =
     tie.close
     (tie.spec
     invariant-loop

@@ -5,7 +5,7 @@ use native.Mathlib.Omega.{arith}
 use lib.ListN.{get_or}
 use borrow.Author.Rules.{rules}
 use Rattle.grid.specs.Rows.{Edge, Less}
-use Rattle.grid.specs.laws.Masks.{bits-beyond}
+use Rattle.grid.specs.Laws.Masks.{bits_beyond}
 use Rattle.grid.proofs.Shapes.{edge_row}
 use Rattle.grid.proofs.Loops.{Passed, passed_none, passed-more, RowIs, rows_all}
 use Rattle.grid.proofs.rows.less.Statement.{statement}
@@ -55,16 +55,16 @@ loop-again c =
     let a = c.before.before.args in
     let l = c.before.loop in
     passed-more 0 16 _ _ l.next l.i _ l.invariant (omega arith)
-    (bits-beyond (get_or a.t1 l.i 0) (get_or a.t2 l.i 0))
+    (bits_beyond (get_or a.t1 l.i 0) (get_or a.t2 l.i 0))
 
 returns : tie.Need-returns invariant-loop decreases-loop
 returns c =
     let b = c.before.before in
     rows_all _ _ _ _ c.before.loop.invariant (omega arith)
-    (λ i j p. edge_row b.args.t1 16 i j b.well-formed.0.1.0.1 p.0)
+    (λ i j p. edge_row b.args.t1 16 i j b.well_formed.0.1.0.1 p.0)
 
-pub less-spec : {M : Type 1} → statement M
-less-spec =
+pub less_spec : {M : Type 1} → statement M
+less_spec =
     tie.close
     (tie.spec
     invariant-loop

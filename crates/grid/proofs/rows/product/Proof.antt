@@ -4,8 +4,8 @@ use Prim.Native.Nat.{ℕ, ◌<◌, ◌≤◌, ◌-◌}
 use native.Mathlib.Omega.{arith}
 use borrow.Author.Rules.{rules}
 use Rattle.grid.specs.Rows.{Rel, Edge, Or, Same}
-use Rattle.grid.specs.laws.Masks.{has-zero}
-use Rattle.grid.proofs.Relations.{Some, some-none, some_more, some-skip}
+use Rattle.grid.specs.Laws.Masks.{has_zero}
+use Rattle.grid.proofs.Relations.{Some, some_none, some_more, some-skip}
 use Rattle.grid.proofs.Shapes.{edge_row}
 use Rattle.grid.proofs.rows.product.Statement.{statement}
 use Rattle.grid.proofs.rows.product.Tie as tie
@@ -17,7 +17,7 @@ abbrev decreases-loop : tie.decreases-loop
 decreases-loop a b next₀ j₀ next j = 16 - j
 
 loop-holds : tie.Need-loop-init invariant-loop decreases-loop
-loop-holds c = (omega arith, some-none _ _)
+loop-holds c = (omega arith, some_none _ _)
 
 mul-m : tie.Need-overflow-mul-m invariant-loop decreases-loop
 mul-m c = search rules
@@ -44,7 +44,7 @@ loop-again c =
           (λ w. rw w.2 (some_more (Edge a.r) F (Edge l.next) _ l.j l.invariant.1 w.1.ensures))
           (λ w. rw w.1
           (some-skip (Edge a.r) F (Edge l.next) l.j l.invariant.1
-          (λ i j p. has-zero j (rw w.0.left at p.1))))
+          (λ i j p. has_zero j (rw w.0.left at p.1))))
           c.if1.branch,
     )
 
@@ -59,13 +59,13 @@ returns c =
           (⊎_elim
           (λ q. inl q)
           (λ q.
-          let h : q.0 < 16 = edge_row b.args.t3 16 q.0 j b.well-formed.1.1.0.1.0.1 q.2 in
+          let h : q.0 < 16 = edge_row b.args.t3 16 q.0 j b.well_formed.1.1.0.1.0.1 q.2 in
           inr (q.0, omega arith, (q.1, q.2)))
           p);
     }
 
-pub product-spec : {M : Type 1} → statement M
-product-spec =
+pub product_spec : {M : Type 1} → statement M
+product_spec =
     tie.close
     (tie.spec
     invariant-loop

@@ -5,7 +5,7 @@ use native.Mathlib.Omega.{arith}
 use lib.ListN.{get_or}
 use borrow.Author.Rules.{rules}
 use Rattle.grid.specs.Rows.{Edge, Or, Spread}
-use Rattle.grid.specs.laws.Masks.{bits-self, bits-or, bits-times, times-le}
+use Rattle.grid.specs.Laws.Masks.{bits_self, bits_or, bits_times, times_le}
 use Rattle.grid.proofs.Shapes.{edge_row}
 use Rattle.grid.proofs.Loops.{Passed, passed_none, passed-more, RowIs, rows_all}
 use Rattle.grid.proofs.rows.spread.Statement.{statement}
@@ -18,7 +18,7 @@ abbrev decreases-loop : tie.decreases-loop
 decreases-loop k m s next₀ i₀ next i = 16 - i
 
 loop-holds : tie.Need-loop-init invariant-loop decreases-loop
-loop-holds c = passed_none 0 16 _ _ c.well-formed.0.1.0.1
+loop-holds c = passed_none 0 16 _ _ c.well_formed.0.1.0.1
 
 mul_next : tie.Need-overflow-mul-next invariant-loop decreases-loop
 mul_next c = search rules
@@ -40,7 +40,7 @@ shr-next c = search rules
 
 mul-next-3 : tie.Need-overflow-mul-next-3 invariant-loop decreases-loop
 mul-next-3 c =
-    let a = c.before.before.args in omega (arith, times-le (get_or a.t2 c.before.loop.i 0) a.k a.m)
+    let a = c.before.before.args in omega (arith, times_le (get_or a.t2 c.before.loop.i 0) a.k a.m)
 
 mul-next-4 : tie.Need-overflow-mul-next-4 invariant-loop decreases-loop
 mul-next-4 c = search rules
@@ -59,18 +59,18 @@ loop-again c =
     let a = c.before.before.args in
     let l = c.before.loop in
     passed-more 0 16 _ a.r l.next l.i _ l.invariant (omega arith)
-    (rw (l.invariant.rest l.i (omega arith)) (bits-or (bits-self _) (bits-times (get_or a.t2 l.i 0) a.k a.m)))
+    (rw (l.invariant.rest l.i (omega arith)) (bits_or (bits_self _) (bits_times (get_or a.t2 l.i 0) a.k a.m)))
 
 returns : tie.Need-returns invariant-loop decreases-loop
 returns c =
     let b = c.before.before in
     rows_all _ _ _ _ c.before.loop.invariant (omega arith)
     (λ i j. ⊎_elim
-    (λ p. edge_row b.args.r 16 i j b.well-formed.0.1.0.1 p)
-    (λ p. edge_row b.args.t2 16 i b.args.k b.well-formed.1.0.1.0.1 p.0))
+    (λ p. edge_row b.args.r 16 i j b.well_formed.0.1.0.1 p)
+    (λ p. edge_row b.args.t2 16 i b.args.k b.well_formed.1.0.1.0.1 p.0))
 
-pub spread-spec : {M : Type 1} → statement M
-spread-spec =
+pub spread_spec : {M : Type 1} → statement M
+spread_spec =
     tie.close
     (tie.spec
     invariant-loop

@@ -4,7 +4,7 @@ use Prim.Native.Nat.{◌-◌}
 use native.Mathlib.Omega.{arith}
 use borrow.Author.Rules.{rules}
 use Rattle.grid.specs.Rows.{Edge, Or}
-use Rattle.grid.specs.laws.Masks.{bits-self, bits-or}
+use Rattle.grid.specs.Laws.Masks.{bits_self, bits_or}
 use Rattle.grid.proofs.Shapes.{edge_row}
 use Rattle.grid.proofs.Loops.{Passed, passed_none, passed-more, RowIs, rows_all}
 use Rattle.grid.proofs.rows.union.Statement.{statement}
@@ -17,7 +17,7 @@ abbrev decreases-loop : tie.decreases-loop
 decreases-loop b next₀ i₀ next i = 16 - i
 
 loop-holds : tie.Need-loop-init invariant-loop decreases-loop
-loop-holds c = passed_none 0 16 _ _ c.well-formed.0.1.0.1
+loop-holds c = passed_none 0 16 _ _ c.well_formed.0.1.0.1
 
 mul_next : tie.Need-overflow-mul-next invariant-loop decreases-loop
 mul_next c = search rules
@@ -48,18 +48,18 @@ loop-again c =
     let a = c.before.before.args in
     let l = c.before.loop in
     passed-more 0 16 _ a.a l.next l.i _ l.invariant (omega arith)
-    (rw (l.invariant.rest l.i (omega arith)) (bits-or (bits-self _) (bits-self _)))
+    (rw (l.invariant.rest l.i (omega arith)) (bits_or (bits_self _) (bits_self _)))
 
 returns : tie.Need-returns invariant-loop decreases-loop
 returns c =
     let b = c.before.before in
     rows_all _ _ _ _ c.before.loop.invariant (omega arith)
     (λ i j. ⊎_elim
-    (λ p. edge_row b.args.a 16 i j b.well-formed.0.1.0.1 p)
-    (λ p. edge_row b.args.t2 16 i j b.well-formed.1.0.1.0.1 p))
+    (λ p. edge_row b.args.a 16 i j b.well_formed.0.1.0.1 p)
+    (λ p. edge_row b.args.t2 16 i j b.well_formed.1.0.1.0.1 p))
 
-pub union-spec : {M : Type 1} → statement M
-union-spec =
+pub union_spec : {M : Type 1} → statement M
+union_spec =
     tie.close
     (tie.spec
     invariant-loop

@@ -19,5 +19,5 @@ returns-2 : tie.Need-returns-2
 returns-2 c =
     let a = c.before.before.args in (sym (get_or-eq_default a.model.now 0 {n = a.i} (omega arith)), omega arith)
 
-pub byte-at-spec : {M : Type 1} → statement M
-byte-at-spec = tie.close (tie.spec shared-slice-read-size size-requires returns returns-2)
+pub byte_at_spec : {M : Type 1} → statement M
+byte_at_spec = tie.close (tie.spec shared-slice-read-size size-requires returns returns-2)

@@ -1,8 +1,8 @@
 -- `put_cell` meets its contract: no line where the cell is 0, and its line otherwise.
 use native.Mathlib.Omega.{arith}
 use mathlib.Core.Path.{sym, ◌∙◌}
-use Rattle.append.specs.laws.Appending.{nothing}
-use Rattle.listing.proofs.LineLaws.{no_line, a-line}
+use Rattle.append.specs.Laws.Appending.{nothing}
+use Rattle.listing.proofs.LineLaws.{no_line, a_line}
 use borrow.Author.Rules.{rules}
 use Rattle.listing.proofs.lines.put_cell.Statement.{statement}
 use Rattle.listing.proofs.lines.put_cell.Tie as tie
@@ -40,10 +40,10 @@ returns-2 c =
     let f = c.before.before.put-pair.ensures in
     let tested = c.before.before.before.before in
     let v = tested.before.byte_at.ensures.0 in
-    (a-line a.model.now a.r a.a a.b _ v tested.if1.false f.0, f.1)
+    (a_line a.model.now a.r a.a a.b _ v tested.if1.false f.0, f.1)
 
-pub put-cell-spec : {M : Type 1} → statement M
-put-cell-spec =
+pub put_cell_spec : {M : Type 1} → statement M
+put_cell_spec =
     tie.close
     (tie.spec
     mul-byte-at

@@ -1,17 +1,17 @@
 -- `put_cells` meets its contract: after b turns the lines of the first b cells are written.
 use native.Mathlib.Omega.{arith}
 use Prim.Native.Nat.{◌+◌, ◌*◌, ◌≤◌, ◌-◌}
-use Rattle.listing.specs.Text.{each, cellLine}
+use Rattle.listing.specs.Text.{each, cell_line}
 use Rattle.append.specs.Appends.{Appends}
-use Rattle.append.specs.laws.Appending.{same_size}
-use Rattle.listing.specs.laws.Texts.{each_none, each_more, each_all}
+use Rattle.append.specs.Laws.Appending.{same_size}
+use Rattle.listing.specs.Laws.Texts.{each_none, each_more, each_all}
 use borrow.Author.Rules.{rules}
 use Rattle.listing.proofs.lines.put_cells.Statement.{statement}
 use Rattle.listing.proofs.lines.put_cells.Tie as tie
 
 abbrev invariant-loop : tie.invariant-loop
 invariant-loop out₀ at model r a p₀ b₀ out p b =
-    (b ≤ 8) × (p ≤ at + 16 * b) × Appends at (each b (λ x. cellLine model r a x)) out₀ out p
+    (b ≤ 8) × (p ≤ at + 16 * b) × Appends at (each b (λ x. cell_line model r a x)) out₀ out p
 
 abbrev decreases-loop : tie.decreases-loop
 decreases-loop out₀ at model r a p₀ b₀ out p b = 8 - b
@@ -40,8 +40,8 @@ same_length c = same_size c.before.loop.invariant.2
 returns : tie.Need-returns invariant-loop decreases-loop
 returns c = let l = c.before.loop in (each_all 8 l.b _ (omega arith) l.invariant.2, omega arith)
 
-pub put-cells-spec : {M : Type 1} → statement M
-put-cells-spec =
+pub put_cells_spec : {M : Type 1} → statement M
+put_cells_spec =
     tie.close
     (tie.spec
     invariant-loop

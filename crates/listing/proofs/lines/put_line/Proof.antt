@@ -1,7 +1,7 @@
 -- `put_line` meets its contract: the word, the number and the end of the line, one after the other.
 use native.Mathlib.Omega.{arith}
-use Rattle.append.specs.laws.Appending.{then}
-use Rattle.listing.proofs.LineLaws.{line-short}
+use Rattle.append.specs.Laws.Appending.{then}
+use Rattle.listing.proofs.LineLaws.{line_short}
 use borrow.Author.Rules.{rules}
 use Rattle.listing.proofs.lines.put_line.Statement.{statement}
 use Rattle.listing.proofs.lines.put_line.Tie as tie
@@ -28,10 +28,10 @@ returns c =
     let worded = numbered.before.before.before.before in
     let a = worded.before.before.before.before.args in
     let f = then worded.put.ensures (then numbered.put-number.ensures.0 ended.put2.ensures) in
-    (f, omega (arith, f.place, line-short a.word.now a.n (omega arith)))
+    (f, omega (arith, f.place, line_short a.word.now a.n (omega arith)))
 
-pub put-line-spec : {M : Type 1} → statement M
-put-line-spec =
+pub put_line_spec : {M : Type 1} → statement M
+put_line_spec =
     tie.close
     (tie.spec
     put-requires

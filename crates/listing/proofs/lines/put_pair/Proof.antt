@@ -1,7 +1,7 @@
 -- `put_pair` meets its contract: the word, the numbers and the end of the line, one after the other.
 use native.Mathlib.Omega.{arith}
-use Rattle.append.specs.laws.Appending.{then}
-use Rattle.listing.proofs.LineLaws.{pair-short}
+use Rattle.append.specs.Laws.Appending.{then}
+use Rattle.listing.proofs.LineLaws.{pair_short}
 use borrow.Author.Rules.{rules}
 use Rattle.listing.proofs.lines.put_pair.Statement.{statement}
 use Rattle.listing.proofs.lines.put_pair.Tie as tie
@@ -46,11 +46,11 @@ returns c =
     let small = start.requires in
     let rest = then n3.put-number3.ensures.0 (then n4.put-number4.ensures.0 ended.put2.ensures) in
     let f = then worded.put.ensures (then n1.put-number.ensures.0 (then n2.put-number2.ensures.0 rest)) in
-    let s = pair-short a.r a.a a.b a.v (omega arith) (omega arith) (omega arith) (omega arith) in
+    let s = pair_short a.r a.a a.b a.v (omega arith) (omega arith) (omega arith) (omega arith) in
     (f, omega (arith, f.place, s))
 
-pub put-pair-spec : {M : Type 1} → statement M
-put-pair-spec =
+pub put_pair_spec : {M : Type 1} → statement M
+put_pair_spec =
     tie.close
     (tie.spec
     slice-aggregate-put

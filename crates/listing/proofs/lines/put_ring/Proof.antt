@@ -1,7 +1,7 @@
 -- `put_ring` meets its contract: the word, the numbers and the end of the line, one after the other.
 use native.Mathlib.Omega.{arith}
-use Rattle.append.specs.laws.Appending.{then}
-use Rattle.listing.proofs.LineLaws.{ring-short}
+use Rattle.append.specs.Laws.Appending.{then}
+use Rattle.listing.proofs.LineLaws.{ring_short}
 use borrow.Author.Rules.{rules}
 use Rattle.listing.proofs.lines.put_ring.Statement.{statement}
 use Rattle.listing.proofs.lines.put_ring.Tie as tie
@@ -36,10 +36,10 @@ returns c =
     let a = worded.before.before.before.before.args in
     let rest = then n2.put-number2.ensures.0 ended.put2.ensures in
     let f = then worded.put.ensures (then n1.put-number.ensures.0 rest) in
-    (f, omega (arith, f.place, ring-short a.routine a.name (omega arith) (omega arith)))
+    (f, omega (arith, f.place, ring_short a.routine a.name (omega arith) (omega arith)))
 
-pub put-ring-spec : {M : Type 1} → statement M
-put-ring-spec =
+pub put_ring_spec : {M : Type 1} → statement M
+put_ring_spec =
     tie.close
     (tie.spec
     slice-aggregate-put

@@ -1,17 +1,17 @@
 -- `put_row` meets its contract: after a turns the lines of the first a runs of cells are written.
 use native.Mathlib.Omega.{arith}
 use Prim.Native.Nat.{◌+◌, ◌*◌, ◌≤◌, ◌-◌}
-use Rattle.listing.specs.Text.{each, cellLine}
+use Rattle.listing.specs.Text.{each, cell_line}
 use Rattle.append.specs.Appends.{Appends}
-use Rattle.append.specs.laws.Appending.{same_size}
-use Rattle.listing.specs.laws.Texts.{each_none, each_more, each_all}
+use Rattle.append.specs.Laws.Appending.{same_size}
+use Rattle.listing.specs.Laws.Texts.{each_none, each_more, each_all}
 use borrow.Author.Rules.{rules}
 use Rattle.listing.proofs.lines.put_row.Statement.{statement}
 use Rattle.listing.proofs.lines.put_row.Tie as tie
 
 abbrev invariant-loop : tie.invariant-loop
 invariant-loop out₀ at model r p₀ a₀ out p a =
-    (a ≤ 8) × (p ≤ at + 128 * a) × Appends at (each a (λ x. each 8 (λ y. cellLine model r x y))) out₀ out p
+    (a ≤ 8) × (p ≤ at + 128 * a) × Appends at (each a (λ x. each 8 (λ y. cell_line model r x y))) out₀ out p
 
 abbrev decreases-loop : tie.decreases-loop
 decreases-loop out₀ at model r p₀ a₀ out p a = 8 - a
@@ -40,8 +40,8 @@ same_length c = same_size c.before.loop.invariant.2
 returns : tie.Need-returns invariant-loop decreases-loop
 returns c = let l = c.before.loop in (each_all 8 l.a _ (omega arith) l.invariant.2, omega arith)
 
-pub put-row-spec : {M : Type 1} → statement M
-put-row-spec =
+pub put_row_spec : {M : Type 1} → statement M
+put_row_spec =
     tie.close
     (tie.spec
     invariant-loop

@@ -1,16 +1,16 @@
 -- `put_rows` meets its contract: after r turns the lines of the first r rows are written.
 use native.Mathlib.Omega.{arith}
 use Prim.Native.Nat.{◌+◌, ◌*◌, ◌≤◌, ◌-◌}
-use Rattle.listing.specs.Text.{pairLines}
+use Rattle.listing.specs.Text.{pair_lines}
 use Rattle.append.specs.Appends.{Appends}
-use Rattle.append.specs.laws.Appending.{same_size}
-use Rattle.listing.specs.laws.Texts.{each_none, each_more, each_all}
+use Rattle.append.specs.Laws.Appending.{same_size}
+use Rattle.listing.specs.Laws.Texts.{each_none, each_more, each_all}
 use borrow.Author.Rules.{rules}
 use Rattle.listing.proofs.lines.put_rows.Statement.{statement}
 use Rattle.listing.proofs.lines.put_rows.Tie as tie
 
 abbrev invariant-loop : tie.invariant-loop
-invariant-loop out₀ at model n p₀ r₀ out p r = (r ≤ n) × (p ≤ at + 1024 * r) × Appends at (pairLines r model) out₀ out p
+invariant-loop out₀ at model n p₀ r₀ out p r = (r ≤ n) × (p ≤ at + 1024 * r) × Appends at (pair_lines r model) out₀ out p
 
 abbrev decreases-loop : tie.decreases-loop
 decreases-loop out₀ at model n p₀ r₀ out p r = n - r
@@ -39,8 +39,8 @@ same_length c = same_size c.before.loop.invariant.2
 returns : tie.Need-returns invariant-loop decreases-loop
 returns c = let l = c.before.loop in (each_all _ l.r _ (omega arith) l.invariant.2, omega arith)
 
-pub put-rows-spec : {M : Type 1} → statement M
-put-rows-spec =
+pub put_rows_spec : {M : Type 1} → statement M
+put_rows_spec =
     tie.close
     (tie.spec
     invariant-loop

@@ -1,7 +1,7 @@
 -- `put_share` meets its contract: the word, the numbers and the end of the line, one after the other.
 use native.Mathlib.Omega.{arith}
-use Rattle.append.specs.laws.Appending.{then}
-use Rattle.listing.proofs.LineLaws.{share-short}
+use Rattle.append.specs.Laws.Appending.{then}
+use Rattle.listing.proofs.LineLaws.{share_short}
 use borrow.Author.Rules.{rules}
 use Rattle.listing.proofs.lines.put_share.Statement.{statement}
 use Rattle.listing.proofs.lines.put_share.Tie as tie
@@ -42,12 +42,12 @@ returns c =
     let small = start.requires.1 in
     let rest = then n2.put-number2.ensures.0 (then n3.put-number3.ensures.0 ended.put2.ensures) in
     let f = then worded.put.ensures (then n1.put-number.ensures.0 rest) in
-    let short = share-short s.percent s.remainder s.reached small.percent-few small.whole-exact
-    small.remainder-few small.reached-few in
+    let short = share_short s.percent s.remainder s.reached small.percent_few small.whole_exact
+    small.remainder_few small.reached_few in
     (f, omega (arith, f.place, short))
 
-pub put-share-spec : {M : Type 1} → statement M
-put-share-spec =
+pub put_share_spec : {M : Type 1} → statement M
+put_share_spec =
     tie.close
     (tie.spec
     slice-aggregate-put

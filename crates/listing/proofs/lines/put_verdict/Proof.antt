@@ -1,7 +1,7 @@
 -- `put_verdict` meets its contract, by the cases of the verdict.
 use native.Mathlib.Omega.{arith}
-use Rattle.listing.specs.Text.{verdictLine}
-use Rattle.append.specs.laws.Appending.{equal-text}
+use Rattle.listing.specs.Text.{verdict_line}
+use Rattle.append.specs.Laws.Appending.{equal_text}
 use Rattle.analysis.specs.Answer.{Short}
 use mathlib.Core.Path.{ap, subst}
 use borrow.Author.Rules.{rules}
@@ -33,7 +33,7 @@ returns : tie.Need-returns
 returns c =
     let f = c.before.before.put.ensures in
     let known = c.before.before.before.before.before in
-    (equal-text (ap verdictLine known.enum_told.given.1) f, omega (arith, f.place))
+    (equal_text (ap verdict_line known.enum_told.given.1) f, omega (arith, f.place))
 
 same-length-2 : tie.Need-same-length-2
 same-length-2 c = search rules
@@ -42,10 +42,10 @@ returns-2 : tie.Need-returns-2
 returns-2 c =
     let f = c.before.before.put-ring.ensures in
     let known = c.before.before.before.before.before in
-    (equal-text (ap verdictLine known.verdict.given.1) f.0, f.1)
+    (equal_text (ap verdict_line known.verdict.given.1) f.0, f.1)
 
-pub put-verdict-spec : {M : Type 1} → statement M
-put-verdict-spec =
+pub put_verdict_spec : {M : Type 1} → statement M
+put_verdict_spec =
     tie.close
     (tie.spec
     enum_told

@@ -1,7 +1,7 @@
 -- `put_number` meets its contract: a space, and then the number.
 use native.Mathlib.Omega.{arith}
-use Rattle.append.specs.laws.Appending.{then}
-use Rattle.listing.proofs.DecimalLaws.{three-digits}
+use Rattle.append.specs.Laws.Appending.{then}
+use Rattle.listing.proofs.DecimalLaws.{three_digits}
 use borrow.Author.Rules.{rules}
 use Rattle.listing.proofs.text.put_number.Statement.{statement}
 use Rattle.listing.proofs.text.put_number.Tie as tie
@@ -20,7 +20,7 @@ returns c =
     let n = c.before.before.before.before.before.before.before.before.before.args.n in
     let s = c.before.before.before.before.before.before.put_byte.ensures in
     let d = c.before.before.put-decimal.ensures in
-    (then s d, omega (arith, s.place, d.place, three-digits n (omega arith)))
+    (then s d, omega (arith, s.place, d.place, three_digits n (omega arith)))
 
-pub put-number-spec : {M : Type 1} → statement M
-put-number-spec = tie.close (tie.spec put-byte-requires put-decimal-requires same_length returns)
+pub put_number_spec : {M : Type 1} → statement M
+put_number_spec = tie.close (tie.spec put-byte-requires put-decimal-requires same_length returns)

@@ -1,6 +1,6 @@
 -- `called` meets its contract: its routine's row, and the bytes after the routine's for names.
 use borrow.Author.Rules.{rules}
-use Rattle.pairs.proofs.Gaining.{row-ready, row-gains}
+use Rattle.pairs.proofs.Gaining.{row_ready, row_gains}
 use Rattle.pairs.proofs.calls.called.Statement.{statement}
 use Rattle.pairs.proofs.calls.called.Tie as tie
 
@@ -31,7 +31,7 @@ put-row-requires c κs =
     let a = b.args in
     let q = c.before.before.before.size in
     let k = c.before.size2 in (
-      row-ready a.roots.now a.ks.now a.s.now a.rows.now a.at a.t b.requires.0 q.result
+      row_ready a.roots.now a.ks.now a.s.now a.rows.now a.at a.t b.requires.0 q.result
           k.result q.ensures.0 k.ensures.0,
       b.requires.1,
       b.requires.2,
@@ -43,13 +43,13 @@ returns c =
     let a = b.args in
     let q = c.before.before.before.before.size in
     let k = c.before.before.size2 in (
-      row-gains a.roots.now a.ks.now a.s.now a.rows.now a.at a.t b.requires.0 q.result
+      row_gains a.roots.now a.ks.now a.s.now a.rows.now a.at a.t b.requires.0 q.result
           k.result q.ensures.0 k.ensures.0 a.h c.put-row.ensures.0,
       c.put-row.ensures.1,
     )
 
-pub called-spec : {M : Type 1} → statement M
-called-spec =
+pub called_spec : {M : Type 1} → statement M
+called_spec =
     tie.close
     (tie.spec
     add-size

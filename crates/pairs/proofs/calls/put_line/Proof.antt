@@ -6,15 +6,15 @@ use native.Mathlib.Omega.{arith}
 use borrow.Author.Rules.{rules}
 use Rattle.rules.specs.Number.{label_of}
 use Rattle.grid.specs.Grid.{Square}
-use Rattle.pairs.specs.Walks.{heldBy}
-use Rattle.pairs.specs.Gains.{Gains, LineGives, rootsAt}
-use Rattle.pairs.proofs.Gaining.{below_none, below_more, cell-skip, cell-next}
+use Rattle.pairs.specs.Walks.{held_by}
+use Rattle.pairs.specs.Gains.{Gains, LineGives, roots_at}
+use Rattle.pairs.proofs.Gaining.{below_none, below_more, cell_skip, cell_next}
 use Rattle.pairs.proofs.calls.put_line.Statement.{statement}
 use Rattle.pairs.proofs.calls.put_line.Tie as tie
 
 abbrev invariant-loop : tie.invariant-loop
 invariant-loop g₀ roots s at k rows first h t a j₀ g j =
-    (j ≤ k + 1) × Gains g₀ (LineGives rows first (rootsAt roots s at k) (label_of t) (heldBy h) (heldBy a) j) g
+    (j ≤ k + 1) × Gains g₀ (LineGives rows first (roots_at roots s at k) (label_of t) (held_by h) (held_by a) j) g
     × Square g
 
 abbrev decreases-loop : tie.decreases-loop
@@ -53,9 +53,9 @@ loop-again c =
     let l = c.before.before.before.loop in (
       omega arith,
       below_more _ l.j l.invariant.1 (⊎_elim
-          (λ q. rw q.5 (cell-next a.rows.now a.first _ a.t _ _ l.j q.1.result _ q.1.ensures
+          (λ q. rw q.5 (cell_next a.rows.now a.first _ a.t _ _ l.j q.1.result _ q.1.ensures
           q.3.ensures q.4.ensures.0))
-          (λ q. rw q.1 (cell-skip a.rows.now a.first _ a.t _ _ l.j l.g l.invariant.1.small
+          (λ q. rw q.1 (cell_skip a.rows.now a.first _ a.t _ _ l.j l.g l.invariant.1.small
           (search rules)))
           c.if1.branch),
       ⊎_elim (λ q. rw q.5 q.4.ensures.1) (λ q. rw q.1 l.invariant.2) c.if1.branch,
@@ -68,8 +68,8 @@ returns c =
     let e : l.j ≡ a.k + 1 = omega arith in
     (rw e at l.invariant.1, l.invariant.2)
 
-pub put-line-spec : {M : Type 1} → statement M
-put-line-spec =
+pub put_line_spec : {M : Type 1} → statement M
+put_line_spec =
     tie.close
     (tie.spec
     invariant-loop

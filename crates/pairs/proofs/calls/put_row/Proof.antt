@@ -6,15 +6,15 @@ use native.Mathlib.Omega.{arith}
 use borrow.Author.Rules.{rules}
 use Rattle.rules.specs.Number.{label_of}
 use Rattle.grid.specs.Grid.{Square}
-use Rattle.pairs.specs.Walks.{heldBy}
-use Rattle.pairs.specs.Gains.{Gains, RowGives, rootsAt}
-use Rattle.pairs.proofs.Gaining.{below_none, below_more, line-ready, line-skip, line-next}
+use Rattle.pairs.specs.Walks.{held_by}
+use Rattle.pairs.specs.Gains.{Gains, RowGives, roots_at}
+use Rattle.pairs.proofs.Gaining.{below_none, below_more, line_ready, line_skip, line_next}
 use Rattle.pairs.proofs.calls.put_row.Statement.{statement}
 use Rattle.pairs.proofs.calls.put_row.Tie as tie
 
 abbrev invariant-loop : tie.invariant-loop
 invariant-loop g₀ roots s at k rows first h t i₀ g i =
-    (i ≤ k + 1) × Gains g₀ (RowGives rows first (rootsAt roots s at k) (label_of t) (heldBy h) (k + 1) i) g × Square g
+    (i ≤ k + 1) × Gains g₀ (RowGives rows first (roots_at roots s at k) (label_of t) (held_by h) (k + 1) i) g × Square g
 
 abbrev decreases-loop : tie.decreases-loop
 decreases-loop g₀ roots s at k rows first h t i₀ g i = k + 1 - i
@@ -37,7 +37,7 @@ put-line-requires c κs =
     let b = c.before.before.before.before.before.before.before in
     let a = b.args in
     let l = c.before.before.before.before.loop in (
-      line-ready a.roots.now a.s.now a.at a.k a.rows.now a.first a.t l.i (omega arith)
+      line_ready a.roots.now a.s.now a.at a.k a.rows.now a.first a.t l.i (omega arith)
           b.requires.0,
       l.invariant.1.small,
       l.invariant.2,
@@ -56,9 +56,9 @@ loop-again c =
     let r = c.before.renamed in (
       omega arith,
       below_more _ l.i l.invariant.1 (⊎_elim
-          (λ q. rw q.3 (line-next a.rows.now a.first _ a.t _ l.i (a.k + 1) r.result r.ensures
+          (λ q. rw q.3 (line_next a.rows.now a.first _ a.t _ l.i (a.k + 1) r.result r.ensures
           q.2.ensures.0))
-          (λ q. rw q.1 (line-skip a.rows.now a.first _ a.t _ l.i (a.k + 1) r.result l.g
+          (λ q. rw q.1 (line_skip a.rows.now a.first _ a.t _ l.i (a.k + 1) r.result l.g
           l.invariant.1.small r.ensures (search rules)))
           c.if1.branch),
       ⊎_elim (λ q. rw q.3 q.2.ensures.1) (λ q. rw q.1 l.invariant.2) c.if1.branch,
@@ -71,8 +71,8 @@ returns c =
     let e : l.i ≡ a.k + 1 = omega arith in
     (rw e at l.invariant.1, l.invariant.2)
 
-pub put-row-spec : {M : Type 1} → statement M
-put-row-spec =
+pub put_row_spec : {M : Type 1} → statement M
+put_row_spec =
     tie.close
     (tie.spec
     invariant-loop

@@ -24,8 +24,8 @@ returns c =
 returns-2 : tie.Need-returns-2
 returns-2 c = let a = c.before.before.args in rw (ne_eqb a.b 2 (search rules))
 
-pub holder-inside-spec : {M : Type 1} → statement M
-holder-inside-spec =
+pub holder_inside_spec : {M : Type 1} → statement M
+holder_inside_spec =
     tie.close
     (tie.spec
     add-holder-under

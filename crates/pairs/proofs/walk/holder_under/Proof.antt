@@ -11,11 +11,11 @@ in-nest-requires c κs = rw c.root-of.ensures c.before.requires.1
 
 returns : tie.Need-returns
 returns c =
-    let asked = c.before in rw (← asked.before.root-of.ensures, ← asked.in-nest.ensures, c.if1.true)
+    let asked = c.before in rw (← asked.before.root-of.ensures, ← asked.in_nest_lem.ensures, c.if1.true)
 
 returns-2 : tie.Need-returns-2
 returns-2 c =
-    let asked = c.before in rw (← asked.before.root-of.ensures, ← asked.in-nest.ensures, c.if1.false)
+    let asked = c.before in rw (← asked.before.root-of.ensures, ← asked.in_nest_lem.ensures, c.if1.false)
 
-pub holder-under-spec : {M : Type 1} → statement M
-holder-under-spec = tie.close (tie.spec root-of-requires in-nest-requires returns returns-2)
+pub holder_under_spec : {M : Type 1} → statement M
+holder_under_spec = tie.close (tie.spec root-of-requires in-nest-requires returns returns-2)

@@ -2,7 +2,7 @@
 use mathlib.Core.Logic.{inl, inr}
 use mathlib.Core.Path.{refl, sym, ◌∙◌}
 use borrow.Author.Rules.{rules}
-use Rattle.pairs.proofs.Steps.{past-byte, past_two, past-rest}
+use Rattle.pairs.proofs.Steps.{past_byte, past_two, past_rest}
 use Rattle.pairs.proofs.walk.past.Statement.{statement}
 use Rattle.pairs.proofs.walk.past.Tie as tie
 
@@ -49,17 +49,17 @@ returns-2 : tie.Need-returns-2
 returns-2 c =
     let a = c.before.before.before.before.before.before.before.before.args in
     rw (c.size2.ensures.0, c.before.before.size.ensures.0)
-    (sym (past-byte a.ks.now a.s.now a.at 6 (search rules)))
+    (sym (past_byte a.ks.now a.s.now a.at 6 (search rules)))
 
 returns-3 : tie.Need-returns-3
 returns-3 c =
     let a = c.before.before.before.before.args in
     let m = c.match.rest in
-    sym (past-byte a.ks.now a.s.now a.at _ refl
-    ∙ past-rest a.ks.now a.s.now a.at _ (λ e. m.0.1 (inl e)) (λ e. m.0.1 (inr e)) m.1)
+    sym (past_byte a.ks.now a.s.now a.at _ refl
+    ∙ past_rest a.ks.now a.s.now a.at _ (λ e. m.0.1 (inl e)) (λ e. m.0.1 (inr e)) m.1)
 
-pub past-spec : {M : Type 1} → statement M
-past-spec =
+pub past_spec : {M : Type 1} → statement M
+past_spec =
     tie.close
     (tie.spec
     shared-slice-read-match

@@ -1,7 +1,7 @@
 -- `root_of` meets its contract: the entry is at the name as an index.
 use mathlib.Core.Path.{ap}
 use borrow.Author.Rules.{rules}
-use Rattle.pairs.specs.Walks.{rootOf}
+use Rattle.pairs.specs.Walks.{root_of}
 use Rattle.pairs.proofs.walk.root_of.Statement.{statement}
 use Rattle.pairs.proofs.walk.root_of.Tie as tie
 
@@ -13,7 +13,7 @@ element-copy-out-result c = search rules
 
 returns : tie.Need-returns
 returns c =
-    let sized = c.before in ap (rootOf sized.before.args.roots.now) sized.size.ensures.0
+    let sized = c.before in ap (root_of sized.before.args.roots.now) sized.size.ensures.0
 
-pub root-of-spec : {M : Type 1} → statement M
-root-of-spec = tie.close (tie.spec size-requires element-copy-out-result returns)
+pub root_of_spec : {M : Type 1} → statement M
+root_of_spec = tie.close (tie.spec size-requires element-copy-out-result returns)

@@ -4,7 +4,7 @@ use Prim.Native.Nat.{◌-◌, ◌≤◌}
 use native.Mathlib.Omega.{arith}
 use borrow.Author.Rules.{rules}
 use Rattle.pairs.specs.Walks.{SelvesTo}
-use Rattle.pairs.proofs.Tracking.{one-more-self}
+use Rattle.pairs.proofs.Tracking.{one_more_self}
 use Rattle.pairs.proofs.walk.selves.Statement.{statement}
 use Rattle.pairs.proofs.walk.selves.Tie as tie
 
@@ -31,7 +31,7 @@ loop-less c = search rules
 
 loop-again : tie.Need-loop-preserved invariant-loop decreases-loop
 loop-again c =
-    let l = c.before.loop in (omega arith, one-more-self l.roots l.x (omega arith) l.invariant.1)
+    let l = c.before.loop in (omega arith, one_more_self l.roots l.x (omega arith) l.invariant.1)
 
 returns : tie.Need-returns invariant-loop decreases-loop
 returns c =
@@ -39,8 +39,8 @@ returns c =
     let e : l.x ≡ 16 = omega arith in
     rw e at l.invariant.1
 
-pub selves-spec : {M : Type 1} → statement M
-selves-spec =
+pub selves_spec : {M : Type 1} → statement M
+selves_spec =
     tie.close
     (tie.spec
     invariant-loop

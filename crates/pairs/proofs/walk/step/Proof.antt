@@ -5,8 +5,8 @@ use Prim.Native.Nat.{ℕ}
 use native.Mathlib.Omega.{arith}
 use borrow.Author.Rules.{rules}
 use Rattle.table.specs.Constants.{NEW, LOCK, FORK, CHOICE, MIRROR}
-use Rattle.pairs.specs.Walks.{Walk, walk_of, byte_of, holderOf, nestOf, holderInside, pastBy, topBy, Ready, Given}
-use Rattle.pairs.proofs.Steps.{by_byte, by-rest, past-byte, top_byte, ready-pass, ready-level}
+use Rattle.pairs.specs.Walks.{Walk, walk_of, byte_of, holder_of, nest_of, holder_inside, past_by, top_by, Ready, Given}
+use Rattle.pairs.proofs.Steps.{by_byte, by_rest, past_byte, top_byte, ready_pass, ready_level}
 use Rattle.pairs.proofs.walk.past.Reads as past-reads
 use Rattle.pairs.proofs.walk.level.Reads as level-reads
 use Rattle.pairs.proofs.walk.with_root.Reads as with-root-reads
@@ -19,9 +19,9 @@ use Rattle.pairs.proofs.walk.step.Reads as reads
 use Rattle.pairs.proofs.walk.step.Lts as lts
 
 -- the holder inside, by the byte at the place
-inside-byte : (s : List ℕ) (w : Walk) (i t m b : ℕ) → Given s w i t m → byte_of s w ≡ b
-    → i ≡ holderInside w.roots s w.at b (holderOf w) (nestOf w)
-inside-byte s w i t m b g e = g.holder ∙ ap (λ (v : ℕ). holderInside w.roots s w.at v (holderOf w) (nestOf w)) e
+inside_byte : (s : List ℕ) (w : Walk) (i t m b : ℕ) → Given s w i t m → byte_of s w ≡ b
+    → i ≡ holder_inside w.roots s w.at b (holder_of w) (nest_of w)
+inside_byte s w i t m b g e = g.holder ∙ ap (λ (v : ℕ). holder_inside w.roots s w.at v (holder_of w) (nest_of w)) e
 
 -- the place where the offset past the item and the level there are known
 abbrev AtLevel : Type 0
@@ -41,11 +41,11 @@ AtLevel = lts.After-level (
 ) reads.Pre reads.Post
 
 -- the sections there, and the walk before the item
-abbrev counts-at : AtLevel → List ℕ
-counts-at l = l.before.before.before.before.before.args.ks.now
+abbrev counts_at : AtLevel → List ℕ
+counts_at l = l.before.before.before.before.before.args.ks.now
 
-abbrev bytes-at : AtLevel → List ℕ
-bytes-at l = l.before.before.before.before.before.args.s.now
+abbrev bytes_at : AtLevel → List ℕ
+bytes_at l = l.before.before.before.before.before.args.s.now
 
 abbrev walk_at : AtLevel → Walk
 walk_at l =
@@ -53,21 +53,21 @@ walk_at l =
     walk_of a.p a.holders.now a.threads.now a.nests.now a.roots.now
 
 -- what is required of them
-ready_at : (l : AtLevel) → Ready (counts-at l) (bytes-at l) (walk_at l)
+ready_at : (l : AtLevel) → Ready (counts_at l) (bytes_at l) (walk_at l)
 ready_at l = l.before.before.before.before.before.pre.0
 
-given-at : (l : AtLevel) → let a = l.before.before.before.before.before.args in
-    Given (bytes-at l) (walk_at l) a.inside a.thread a.nest
-given-at l = l.before.before.before.before.before.pre.1
+given_at : (l : AtLevel) → let a = l.before.before.before.before.before.args in
+    Given (bytes_at l) (walk_at l) a.inside a.thread a.nest
+given_at l = l.before.before.before.before.before.pre.1
 
 -- the offset and the level, by the byte at the place
-past-at : (l : AtLevel) (b : ℕ) → byte_of (bytes-at l) (walk_at l) ≡ b
-    → l.before.past.result ≡ pastBy (counts-at l) (bytes-at l) (walk_at l).at b
-past-at l b e = l.before.past.ensures ∙ past-byte (counts-at l) (bytes-at l) (walk_at l).at b e
+past_at_lem : (l : AtLevel) (b : ℕ) → byte_of (bytes_at l) (walk_at l) ≡ b
+    → l.before.past.result ≡ past_by (counts_at l) (bytes_at l) (walk_at l).at b
+past_at_lem l b e = l.before.past.ensures ∙ past_byte (counts_at l) (bytes_at l) (walk_at l).at b e
 
-top-at : (l : AtLevel) (b : ℕ) → byte_of (bytes-at l) (walk_at l) ≡ b
-    → l.level.result ≡ topBy (walk_at l).top b
-top-at l b e = l.level.ensures ∙ top_byte (walk_at l).top (byte_of (bytes-at l) (walk_at l)) b e
+top_at : (l : AtLevel) (b : ℕ) → byte_of (bytes_at l) (walk_at l) ≡ b
+    → l.level.result ≡ top_by (walk_at l).top b
+top_at l b e = l.level.ensures ∙ top_byte (walk_at l).top (byte_of (bytes_at l) (walk_at l)) b e
 
 shared-slice-read-b : tie.Need-shared-slice-read-b
 shared-slice-read-b c = search rules
@@ -76,14 +76,14 @@ past-requires : tie.Need-past-requires
 past-requires c κs =
     let b = c.before.before.before in
     let a = b.args in
-    ready-pass a.ks.now a.s.now
+    ready_pass a.ks.now a.s.now
     (walk_of a.p a.holders.now a.threads.now a.nests.now a.roots.now) b.requires.0
 
 level-requires : tie.Need-level-requires
 level-requires c κs =
     let b = c.before.before.before.before in
     let a = b.args in
-    ready-level a.ks.now a.s.now
+    ready_level a.ks.now a.s.now
     (walk_of a.p a.holders.now a.threads.now a.nests.now a.roots.now) b.requires.0
 
 add-x : tie.Need-overflow-add-x
@@ -108,7 +108,7 @@ entered-requires c κs =
     let l = lock-met.before in
     let e = lock-met.match.keys1 in
     let k = (ready_at l).room LOCK e in
-    let t = top-at l 2 e in
+    let t = top_at l 2 e in
     omega arith
 
 add-entered : tie.Need-overflow-add-entered
@@ -122,7 +122,7 @@ entered-requires-2 c κs =
     let fork-met = c.before.before.before in
     let e = fork-met.match.keys2 in
     let k = (ready_at fork-met.before).room FORK e in
-    let t = top-at fork-met.before 3 e in
+    let t = top_at fork-met.before 3 e in
     omega arith
 
 entered-requires-3 : tie.Need-entered-requires-3
@@ -130,7 +130,7 @@ entered-requires-3 c κs =
     let choice-met = c.before.before.before in
     let e = choice-met.match.keys3 in
     let k = (ready_at choice-met.before).room CHOICE e in
-    let t = top-at choice-met.before 4 e in
+    let t = top_at choice-met.before 4 e in
     omega arith
 
 add-with-local : tie.Need-overflow-add-with-local
@@ -163,11 +163,11 @@ returns c =
     let l = lock-met.before in
     let a = l.before.before.before.before.before.args in
     let e = lock-met.match.keys1 in
-    let i = inside-byte (bytes-at l) (walk_at l) a.inside a.thread a.nest 2 (given-at l) e in
+    let i = inside_byte (bytes_at l) (walk_at l) a.inside a.thread a.nest 2 (given_at l) e in
     let m = nest-met.with_root.ensures in
-    (rw (past-at l 2 e, top-at l 2 e, m, rooted.root-of.ensures, (given-at l).thread, (given-at l).nest, i)
+    (rw (past_at_lem l 2 e, top_at l 2 e, m, rooted.root-of.ensures, (given_at l).thread, (given_at l).nest, i)
     at (c.entered.ensures a.roots.now))
-    ∙ sym (by_byte (counts-at l) (bytes-at l) (walk_at l) 2 e)
+    ∙ sym (by_byte (counts_at l) (bytes_at l) (walk_at l) 2 e)
 
 returns-2 : tie.Need-returns-2
 returns-2 c =
@@ -175,8 +175,8 @@ returns-2 c =
     let l = fork-met.before in
     let a = l.before.before.before.before.before.args in
     let e = fork-met.match.keys2 in
-    (rw (past-at l 3 e, top-at l 3 e) at (c.entered2.ensures a.roots.now))
-    ∙ sym (by_byte (counts-at l) (bytes-at l) (walk_at l) 3 e)
+    (rw (past_at_lem l 3 e, top_at l 3 e) at (c.entered2.ensures a.roots.now))
+    ∙ sym (by_byte (counts_at l) (bytes_at l) (walk_at l) 3 e)
 
 returns-3 : tie.Need-returns-3
 returns-3 c =
@@ -184,10 +184,10 @@ returns-3 c =
     let l = choice-met.before in
     let a = l.before.before.before.before.before.args in
     let e = choice-met.match.keys3 in
-    let i = inside-byte (bytes-at l) (walk_at l) a.inside a.thread a.nest 4 (given-at l) e in
-    (rw (past-at l 4 e, top-at l 4 e, (given-at l).thread, (given-at l).nest, i)
+    let i = inside_byte (bytes_at l) (walk_at l) a.inside a.thread a.nest 4 (given_at l) e in
+    (rw (past_at_lem l 4 e, top_at l 4 e, (given_at l).thread, (given_at l).nest, i)
     at (c.entered3.ensures a.roots.now))
-    ∙ sym (by_byte (counts-at l) (bytes-at l) (walk_at l) 4 e)
+    ∙ sym (by_byte (counts_at l) (bytes_at l) (walk_at l) 4 e)
 
 returns-4 : tie.Need-returns-4
 returns-4 c =
@@ -195,8 +195,8 @@ returns-4 c =
     let l = new-met.before in
     let a = l.before.before.before.before.before.args in
     let e = new-met.match.keys4 in
-    (rw (past-at l 1 e, top-at l 1 e) at (c.with-local.ensures a.holders.now a.threads.now a.nests.now))
-    ∙ sym (by_byte (counts-at l) (bytes-at l) (walk_at l) 1 e)
+    (rw (past_at_lem l 1 e, top_at l 1 e) at (c.with-local.ensures a.holders.now a.threads.now a.nests.now))
+    ∙ sym (by_byte (counts_at l) (bytes_at l) (walk_at l) 1 e)
 
 returns-5 : tie.Need-returns-5
 returns-5 c =
@@ -205,17 +205,17 @@ returns-5 c =
     let l = mirror-met.before in
     let a = l.before.before.before.before.before.args in
     let e = mirror-met.match.keys5 in
-    (rw (past-at l 7 e, top-at l 7 e, rooted.root-of2.ensures)
+    (rw (past_at_lem l 7 e, top_at l 7 e, rooted.root-of2.ensures)
     at (c.with-local2.ensures a.holders.now a.threads.now a.nests.now))
-    ∙ sym (by_byte (counts-at l) (bytes-at l) (walk_at l) 7 e)
+    ∙ sym (by_byte (counts_at l) (bytes_at l) (walk_at l) 7 e)
 
 returns-6 : tie.Need-returns-6
 returns-6 c =
     let l = c.before in
     let m = c.match.rest in
     rw (l.before.past.ensures, l.level.ensures)
-    (sym (by_byte (counts-at l) (bytes-at l) (walk_at l) _ refl
-    ∙ by-rest (counts-at l) (bytes-at l) (walk_at l) _ m.0.0.0.0.1 m.0.0.0.1 m.0.0.1 m.0.1
+    (sym (by_byte (counts_at l) (bytes_at l) (walk_at l) _ refl
+    ∙ by_rest (counts_at l) (bytes_at l) (walk_at l) _ m.0.0.0.0.1 m.0.0.0.1 m.0.0.1 m.0.1
     m.1))
 
 pub step_spec : {M : Type 1} → statement M

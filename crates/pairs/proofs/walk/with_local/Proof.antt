@@ -15,5 +15,5 @@ element-write-roots c = search rules
 returns : tie.Need-returns
 returns c = λ hs ts ns. rw c.size.ensures.0
 
-pub with-local-spec : {M : Type 1} → statement M
-with-local-spec = tie.close (tie.spec add-x size-requires element-write-roots returns)
+pub with_local_spec : {M : Type 1} → statement M
+with_local_spec = tie.close (tie.spec add-x size-requires element-write-roots returns)

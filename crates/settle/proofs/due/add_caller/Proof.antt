@@ -1,6 +1,6 @@
 -- `add_caller` meets its contract: each turn adds the routine to the callers of one that is left of the mask.
 use native.Mathlib.Omega.{arith}
-use Rattle.settle.proofs.DueLaws.{Adding, adding-none, adding-done, adding-turn, inside, taken, rest-less}
+use Rattle.settle.proofs.DueLaws.{Adding, adding_none, adding_done, adding_turn, inside, taken, rest_less}
 use borrow.Author.Rules.{rules}
 use Rattle.settle.proofs.due.add_caller.Statement.{statement}
 use Rattle.settle.proofs.due.add_caller.Tie as tie
@@ -12,7 +12,7 @@ abbrev decreases-loop : tie.decreases-loop
 decreases-loop callers₀ mask r left₀ callers left = left
 
 loop-holds : tie.Need-loop-init invariant-loop decreases-loop
-loop-holds c = adding-none c.args.callers.now c.args.mask c.args.r c.requires.1
+loop-holds c = adding_none c.args.callers.now c.args.mask c.args.r c.requires.1
 
 highest-requires : tie.Need-highest-requires invariant-loop decreases-loop
 highest-requires c κs = omega arith
@@ -78,7 +78,7 @@ loop-less c =
     let a = c.before.before.before.before in
     let l = c.before.before.before.loop in
     let h = c.before.highest in
-    rest-less a.args.callers.now a.args.mask a.args.r a.requires.0 a.ranges.mask.fits
+    rest_less a.args.callers.now a.args.mask a.args.r a.requires.0 a.ranges.mask.fits
     l.callers l.left h.result l.invariant h.ensures
 
 loop-again : tie.Need-loop-preserved invariant-loop decreases-loop
@@ -86,17 +86,17 @@ loop-again c =
     let a = c.before.before.before.before in
     let l = c.before.before.before.loop in
     let h = c.before.highest in
-    adding-turn a.args.callers.now a.args.mask a.args.r a.requires.0 a.ranges.mask.fits
+    adding_turn a.args.callers.now a.args.mask a.args.r a.requires.0 a.ranges.mask.fits
     l.callers l.left h.result l.invariant h.ensures
 
 returns : tie.Need-returns invariant-loop decreases-loop
 returns c =
     let a = c.before.before in
     let l = c.before.loop in
-    adding-done a.args.callers.now a.args.mask a.args.r l.callers l.left (omega arith) l.invariant
+    adding_done a.args.callers.now a.args.mask a.args.r l.callers l.left (omega arith) l.invariant
 
-pub add-caller-spec : {M : Type 1} → statement M
-add-caller-spec =
+pub add_caller_spec : {M : Type 1} → statement M
+add_caller_spec =
     tie.close
     (tie.spec
     invariant-loop

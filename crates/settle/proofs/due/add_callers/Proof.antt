@@ -2,7 +2,7 @@
 use Prim.Native.Nat.{◌-◌}
 use lib.ListN.{length}
 use native.Mathlib.Omega.{arith}
-use Rattle.settle.proofs.DueLaws.{Turned, turned_none, turned_turn, turned-all}
+use Rattle.settle.proofs.DueLaws.{Turned, turned_none, turned_turn, turned_all}
 use borrow.Author.Rules.{rules}
 use Rattle.settle.proofs.due.add_callers.Statement.{statement}
 use Rattle.settle.proofs.due.add_callers.Tie as tie
@@ -43,10 +43,10 @@ loop-again c =
 returns : tie.Need-returns invariant-loop decreases-loop
 returns c =
     let l = c.before.loop in
-    turned-all c.before.before.before.args.calls.now l.callers l.r (omega arith) l.invariant
+    turned_all c.before.before.before.args.calls.now l.callers l.r (omega arith) l.invariant
 
-pub add-callers-spec : {M : Type 1} → statement M
-add-callers-spec =
+pub add_callers_spec : {M : Type 1} → statement M
+add_callers_spec =
     tie.close
     (tie.spec
     invariant-loop

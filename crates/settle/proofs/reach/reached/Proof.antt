@@ -1,7 +1,7 @@
 -- `reached` meets its contract: what the mask has is reached, and when no routine is left it has all that is.
 use Prim.Native.Nat.{◌+◌, ◌-◌, ◌*◌}
 use native.Mathlib.Omega.{arith}
-use Rattle.settle.proofs.ReachLaws.{few-there, Followed, followed-first, Visit, visit, all-reached}
+use Rattle.settle.proofs.ReachLaws.{few_there, Followed, followed_first, Visit, visit, all_reached}
 use borrow.Author.Rules.{rules}
 use Rattle.settle.proofs.due.highest.Reads as highest-reads
 use Rattle.settle.proofs.reach.reached.Statement.{statement}
@@ -20,11 +20,11 @@ abbrev AtVisit : Type 0
 AtVisit = lts.After-highest (highest-reads.Asked, highest-reads.Learnt) reads.Pre reads.Post invariant-loop decreases-loop
 
 -- and what is known of the visit there
-at-visit : (a : AtVisit) →
+at_visit : (a : AtVisit) →
     let turn = a.before.before in
     let start = turn.before.before.before in
     Visit start.args.calls.now start.args.from turn.loop.mask turn.loop.left a.highest.result
-at-visit a =
+at_visit a =
     let l = a.before.before.loop in
     let looped = a.before.before.before in
     let start = looped.before.before in
@@ -32,10 +32,10 @@ at-visit a =
     a.highest.ensures (omega (arith, looped.shared-slice-known2.given a.highest.result))
 
 shl-first : tie.Need-overflow-shl-first invariant-loop decreases-loop
-shl-first c = let l = few-there c.before.requires in search rules
+shl-first c = let l = few_there c.before.requires in search rules
 
 mul-mask : tie.Need-overflow-mul-mask invariant-loop decreases-loop
-mul-mask c = let l = few-there c.before.requires in search rules
+mul-mask c = let l = few_there c.before.requires in search rules
 
 shared-slice-read-mask : tie.Need-shared-slice-read-mask invariant-loop decreases-loop
 shared-slice-read-mask c = c.before.before.requires.there
@@ -43,38 +43,38 @@ shared-slice-read-mask c = c.before.before.requires.there
 loop-holds : tie.Need-loop-init invariant-loop decreases-loop
 loop-holds c =
     let start = c.before.before in
-    followed-first start.args.calls.now start.args.from start.requires
+    followed_first start.args.calls.now start.args.from start.requires
     (omega (arith, c.shared-slice-known2.given start.args.from))
 
 highest-requires : tie.Need-highest-requires invariant-loop decreases-loop
 highest-requires c κs = omega arith
 
 mul_next : tie.Need-overflow-mul-next invariant-loop decreases-loop
-mul_next c = let t = (at-visit c).small in search rules
+mul_next c = let t = (at_visit c).small in search rules
 
 shared-slice-read-next : tie.Need-shared-slice-read-next invariant-loop decreases-loop
-shared-slice-read-next c = (at-visit c.before).there
+shared-slice-read-next c = (at_visit c.before).there
 
 shl-left : tie.Need-overflow-shl-left invariant-loop decreases-loop
-shl-left c = let t = (at-visit c.before).small in search rules
+shl-left c = let t = (at_visit c.before).small in search rules
 
 sub-left : tie.Need-overflow-sub-left invariant-loop decreases-loop
-sub-left c = (at-visit c.before).taken
+sub-left c = (at_visit c.before).taken
 
 loop-less : tie.Need-loop-smaller invariant-loop decreases-loop
-loop-less c = (at-visit c.before).less
+loop-less c = (at_visit c.before).less
 
 loop-again : tie.Need-loop-preserved invariant-loop decreases-loop
-loop-again c = (at-visit c.before).again
+loop-again c = (at_visit c.before).again
 
 returns : tie.Need-returns invariant-loop decreases-loop
 returns c =
     let l = c.before.loop in
     let start = c.before.before.before.before in
-    all-reached start.args.calls.now start.args.from l.mask l.left c.loop-test.false l.invariant
+    all_reached start.args.calls.now start.args.from l.mask l.left c.loop-test.false l.invariant
 
-pub reached-spec : {M : Type 1} → statement M
-reached-spec =
+pub reached_spec : {M : Type 1} → statement M
+reached_spec =
     tie.close
     (tie.spec
     invariant-loop

@@ -1,8 +1,8 @@
 -- `survey_bodies` meets its contract: the routines passed so far are told of, and the next body is at the offset.
 use Prim.Native.Nat.{◌-◌}
 use lib.ListN.{length}
-use Rattle.table.specs.laws.Sections.{few}
-use Rattle.settle.specs.laws.Surveys.{Surveying, survey-start, scan-ready, survey-turn, all-surveyed}
+use Rattle.table.specs.Laws.Sections.{few}
+use Rattle.settle.specs.Laws.Surveys.{Surveying, survey_start, scan_ready, survey_turn, all_surveyed}
 use borrow.Author.Rules.{rules}
 use native.Mathlib.Omega.{arith}
 use Rattle.settle.proofs.survey.survey_bodies.Statement.{statement}
@@ -15,13 +15,13 @@ abbrev decreases-loop : tie.decreases-loop
 decreases-loop ks s starts₀ calls₀ at₀ r₀ starts calls at r = length ks - r
 
 loop-holds : tie.Need-loop-init invariant-loop decreases-loop
-loop-holds c = survey-start _ _ _ _ c.before.before.requires.1 c.before.before.requires.2
+loop-holds c = survey_start _ _ _ _ c.before.before.requires.1 c.before.before.requires.2
 
 scan-requires : tie.Need-scan-requires invariant-loop decreases-loop
 scan-requires c κs =
     let a = c.before.before.before.before.args in
     let l = c.before.loop in
-    scan-ready a.ks.now a.s.now l.starts l.calls l.at l.r l.invariant (omega arith)
+    scan_ready a.ks.now a.s.now l.starts l.calls l.at l.r l.invariant (omega arith)
     c.before.before.before.before.requires.0
 
 mul-starts : tie.Need-overflow-mul-starts invariant-loop decreases-loop
@@ -36,7 +36,7 @@ element-write-starts c =
     let a = c.before.before.before.before.before.args in
     let l = c.before.before.loop in
     let f = few a.ks.now a.s.now c.before.before.before.before.before.requires.0 in
-    let e = l.invariant.starts-long in
+    let e = l.invariant.starts_long in
     omega arith
 
 mul-calls : tie.Need-overflow-mul-calls invariant-loop decreases-loop
@@ -51,7 +51,7 @@ element-write-calls c =
     let a = c.before.before.before.before.before.args in
     let l = c.before.before.loop in
     let f = few a.ks.now a.s.now c.before.before.before.before.before.requires.0 in
-    let e = l.invariant.calls-long in
+    let e = l.invariant.calls_long in
     omega arith
 
 add_r : tie.Need-overflow-add-r invariant-loop decreases-loop
@@ -64,7 +64,7 @@ loop-again : tie.Need-loop-preserved invariant-loop decreases-loop
 loop-again c =
     let a = c.before.before.before.before.before.args in
     let l = c.before.before.loop in
-    survey-turn a.ks.now a.s.now l.starts l.calls l.at l.r l.invariant (omega arith)
+    survey_turn a.ks.now a.s.now l.starts l.calls l.at l.r l.invariant (omega arith)
     c.scan.result.next c.scan.result.calls c.before.before.before.before.before.requires.0
     c.scan.ensures
 
@@ -72,11 +72,11 @@ returns : tie.Need-returns invariant-loop decreases-loop
 returns c =
     let a = c.before.before.before.before.args in
     let l = c.before.loop in
-    all-surveyed a.ks.now a.s.now l.starts l.calls l.at l.r
+    all_surveyed a.ks.now a.s.now l.starts l.calls l.at l.r
     c.before.before.before.before.requires.0 (omega arith) l.invariant
 
-pub survey-bodies-spec : {M : Type 1} → statement M
-survey-bodies-spec =
+pub survey_bodies_spec : {M : Type 1} → statement M
+survey_bodies_spec =
     tie.close
     (tie.spec
     invariant-loop

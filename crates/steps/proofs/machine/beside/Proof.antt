@@ -1,5 +1,5 @@
 -- `beside` meets its contract, by what the thread wants.
-use Rattle.steps.proofs.Machines.{join_free, join-gone, join-waits, join-can, worse-none, worse-some}
+use Rattle.steps.proofs.Machines.{join_free, join-gone, join-waits, join-can, worse_none, worse_some}
 use mathlib.Core.Path.{◌∙◌}
 use borrow.Author.Rules.{rules}
 use Rattle.steps.proofs.machine.beside.Statement.{statement}
@@ -39,7 +39,7 @@ returns-3 c =
     let w = c.before.before in
     let size = w.before.size in
     let a = (begun w).args in
-    worse-none a.others (search rules)
+    worse_none a.others (search rules)
     ∙ join-waits a.t1 a.t a.others size.result w.waits.result (search rules) (search rules)
     size.ensures.0 w.waits.ensures (search rules)
 
@@ -48,7 +48,7 @@ returns-4 c =
     let w = c.before.before in
     let size = w.before.size in
     let a = (begun w).args in
-    worse-some a.others (search rules)
+    worse_some a.others (search rules)
     ∙ join-waits a.t1 a.t a.others size.result w.waits.result (search rules) (search rules)
     size.ensures.0 w.waits.ensures (search rules)
 
@@ -60,8 +60,8 @@ returns-5 c =
     join-can a.t1 a.t a.others size.result w.waits.result (search rules) (search rules)
     size.ensures.0 w.waits.ensures (search rules)
 
-pub beside-spec : {M : Type 1} → statement M
-beside-spec =
+pub beside_spec : {M : Type 1} → statement M
+beside_spec =
     tie.close
     (tie.spec
     element-copy-out-w

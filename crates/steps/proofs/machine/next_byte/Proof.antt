@@ -1,5 +1,5 @@
 -- `next_byte` meets its contract, by the byte that is next: none, of no thread, or of a thread.
-use Rattle.steps.proofs.Machines.{byte-none, byte-unstarted, byte-turn}
+use Rattle.steps.proofs.Machines.{byte_none, byte-unstarted, byte-turn}
 use mathlib.Core.Path.{◌∙◌}
 use borrow.Author.Rules.{rules}
 use Rattle.steps.proofs.machine.next_byte.Statement.{statement}
@@ -21,7 +21,7 @@ over-requires c κs = search rules
 returns : tie.Need-returns
 returns c =
     let a = c.before.before.before.args in
-    c.over.ensures ∙ byte-none a.m a.schedule.now (search rules)
+    c.over.ensures ∙ byte_none a.m a.schedule.now (search rules)
 
 shared-slice-read-size : tie.Need-shared-slice-read-size
 shared-slice-read-size c = search rules
@@ -45,8 +45,8 @@ returns-3 c =
     let a = (begun b).args in
     byte-turn a.m a.schedule.now b.size.result (search rules) b.size.ensures.0 (search rules)
 
-pub next-byte-spec : {M : Type 1} → statement M
-next-byte-spec =
+pub next_byte_spec : {M : Type 1} → statement M
+next_byte_spec =
     tie.close
     (tie.spec
     over-requires

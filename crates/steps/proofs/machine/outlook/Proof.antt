@@ -1,5 +1,5 @@
 -- `outlook` meets its contract: the answer so far is how the threads before the next one stand.
-use Rattle.steps.proofs.Machines.{view-none, view-next, view-all}
+use Rattle.steps.proofs.Machines.{view_none, view_next, view_all}
 use mathlib.Core.Path.{◌≡◌, ◌∙◌}
 use Prim.Native.Nat.{◌-◌, ◌≤◌}
 use Rattle.steps.specs.Machines.{view}
@@ -15,7 +15,7 @@ abbrev decreases-loop : tie.decreases-loop
 decreases-loop m answer₀ t₀ answer t = m.threads - t
 
 loop-holds : tie.Need-loop-init invariant-loop decreases-loop
-loop-holds c = (view-none c.args.m, omega arith)
+loop-holds c = (view_none c.args.m, omega arith)
 
 beside-requires : tie.Need-beside-requires invariant-loop decreases-loop
 beside-requires c κs =
@@ -34,14 +34,14 @@ loop-again : tie.Need-loop-preserved invariant-loop decreases-loop
 loop-again c =
     let i = c.before.before.before in
     let l = i.loop in
-    (c.beside.ensures ∙ view-next i.before.args.m l.t l.answer l.invariant.0, omega arith)
+    (c.beside.ensures ∙ view_next i.before.args.m l.t l.answer l.invariant.0, omega arith)
 
 returns : tie.Need-returns invariant-loop decreases-loop
 returns c =
     let l = c.before.before.loop in
-    view-all c.before.before.before.args.m l.t l.answer l.invariant.0 l.invariant.1 (omega arith)
+    view_all c.before.before.before.args.m l.t l.answer l.invariant.0 l.invariant.1 (omega arith)
 
-pub outlook-spec : {M : Type 1} → statement M
-outlook-spec =
+pub outlook_spec : {M : Type 1} → statement M
+outlook_spec =
     tie.close
     (tie.spec invariant-loop decreases-loop loop-holds beside-requires add-t loop-less loop-again returns)

@@ -1,6 +1,6 @@
 -- `settled` meets its contract, by whether some thread can go on.
 use mathlib.Core.Path.{◌∙◌}
-use Rattle.steps.proofs.Machines.{settled_on, settled-over}
+use Rattle.steps.proofs.Machines.{settled_on, settled_over}
 use borrow.Author.Rules.{rules}
 use Rattle.steps.proofs.machine.settled.Statement.{statement}
 use Rattle.steps.proofs.machine.settled.Tie as tie
@@ -26,8 +26,8 @@ returns-2 c =
     let o = c.before.before in
     let a = o.before.before.args in
     c.over.ensures
-    ∙ settled-over a.m a.schedule.now o.outlook.result o.outlook.ensures (search rules)
+    ∙ settled_over a.m a.schedule.now o.outlook.result o.outlook.ensures (search rules)
 
-pub settled-spec : {M : Type 1} → statement M
-settled-spec =
+pub settled_spec : {M : Type 1} → statement M
+settled_spec =
     tie.close (tie.spec outlook-requires next-byte-requires returns over-requires returns-2)

@@ -1,5 +1,5 @@
 -- `waits` meets its contract, by whether the lock is held at all.
-use Rattle.steps.proofs.Machines.{none-held, some-held}
+use Rattle.steps.proofs.Machines.{none_held, some-held}
 use borrow.Author.Rules.{rules}
 use Rattle.steps.proofs.machine.waits.Statement.{statement}
 use Rattle.steps.proofs.machine.waits.Tie as tie
@@ -10,7 +10,7 @@ element-copy-out-n c = search rules
 returns : tie.Need-returns
 returns c =
     let a = c.before.before.args in
-    none-held a.t1 a.t a.l (search rules)
+    none_held a.t1 a.t a.l (search rules)
 
 element-copy-out-o : tie.Need-element-copy-out-o
 element-copy-out-o c = search rules
@@ -24,5 +24,5 @@ returns-2 c =
     let a = i.before.before.args in
     some-held a.t1 a.t a.l c.size.result c.size.ensures.0 (search rules)
 
-pub waits-spec : {M : Type 1} → statement M
-waits-spec = tie.close (tie.spec element-copy-out-n returns element-copy-out-o size-requires returns-2)
+pub waits_spec : {M : Type 1} → statement M
+waits_spec = tie.close (tie.spec element-copy-out-n returns element-copy-out-o size-requires returns-2)

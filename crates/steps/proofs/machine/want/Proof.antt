@@ -1,8 +1,8 @@
 -- `want` meets its contract, by whether the item is a LOCK.
 use native.Mathlib.Omega.{arith}
-use Rattle.steps.proofs.Machines.{want-lock, want-free}
+use Rattle.steps.proofs.Machines.{want-lock, want_free}
 use mathlib.Core.Path.{◌∙◌, ap}
-use Rattle.steps.specs.Records.{lockOf}
+use Rattle.steps.specs.Records.{lock_of}
 use borrow.Author.Rules.{rules}
 use Rattle.steps.proofs.machine.want.Statement.{statement}
 use Rattle.steps.proofs.machine.want.Tie as tie
@@ -40,16 +40,16 @@ returns : tie.Need-returns
 returns c =
     let read = c.before in
     let a = (begun read.before.before).args in
-    c.lock-of.ensures ∙ ap (lockOf a.t) read.size.ensures.0
+    c.lock-of.ensures ∙ ap (lock_of a.t) read.size.ensures.0
     ∙ want-lock a.s.now a.t a.at (search rules)
 
 returns-2 : tie.Need-returns-2
 returns-2 c =
     let a = c.before.before.before.args in
-    want-free a.s.now a.t a.at (search rules)
+    want_free a.s.now a.t a.at (search rules)
 
-pub want-spec : {M : Type 1} → statement M
-want-spec =
+pub want_spec : {M : Type 1} → statement M
+want_spec =
     tie.close
     (tie.spec
     shared-slice-read-if1

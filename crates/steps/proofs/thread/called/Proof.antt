@@ -3,7 +3,7 @@ use Prim.Native.Nat.{◌+◌}
 use lib.ListN.{set}
 use mathlib.Core.Path.{ap}
 use Rattle.steps.specs.Records.{rec}
-use Rattle.schedule.specs.Limits.{most-locks}
+use Rattle.schedule.specs.Limits.{most_locks}
 use borrow.Author.Rules.{rules}
 use Rattle.steps.proofs.thread.called.Statement.{statement}
 use Rattle.steps.proofs.thread.called.Tie as tie
@@ -30,11 +30,11 @@ returns : tie.Need-returns
 returns c =
     let a = c.before.before.before.args in
     ap
-    (rec a.head (a.t.depth + 1) a.t.ended (set a.t.kinds a.t.depth (most-locks + 1))
+    (rec a.head (a.t.depth + 1) a.t.ended (set a.t.kinds a.t.depth (most_locks + 1))
     (set a.t.goes a.t.depth (a.from + a.k)))
     c.pass-names.ensures
 
-pub called-spec : {M : Type 1} → statement M
-called-spec =
+pub called_spec : {M : Type 1} → statement M
+called_spec =
     tie.close
     (tie.spec element-write-u add-u mul-u element-write-u-2 pass-names-requires add-u-2 returns)

@@ -1,7 +1,7 @@
 -- `copy_names` meets its contract: the names before the next one are copied.
 use mathlib.Core.Path.{◌≡◌}
 use Prim.Native.Nat.{◌-◌, ◌≤◌}
-use Rattle.table.specs.Constants.{most-names}
+use Rattle.table.specs.Constants.{most_names}
 use Rattle.steps.specs.Records.{copied}
 use Rattle.steps.proofs.Loops.{copied_none, copied_next, copied_all}
 use borrow.Author.Rules.{rules}
@@ -10,10 +10,10 @@ use Rattle.steps.proofs.thread.copy_names.Statement.{statement}
 use Rattle.steps.proofs.thread.copy_names.Tie as tie
 
 abbrev invariant-loop : tie.invariant-loop
-invariant-loop names₀ d from to j₀ names j = (names ≡ copied names₀ d j) × (j ≤ most-names)
+invariant-loop names₀ d from to j₀ names j = (names ≡ copied names₀ d j) × (j ≤ most_names)
 
 abbrev decreases-loop : tie.decreases-loop
-decreases-loop names₀ d from to j₀ names j = most-names - j
+decreases-loop names₀ d from to j₀ names j = most_names - j
 
 mul-from : tie.Need-overflow-mul-from invariant-loop decreases-loop
 mul-from c = search rules
@@ -48,8 +48,8 @@ loop-again c = (copied_next _ _ _ _ c.before.before.loop.invariant.0, omega arit
 returns : tie.Need-returns invariant-loop decreases-loop
 returns c = copied_all _ _ _ _ c.before.loop.invariant.0 c.before.loop.invariant.1 (omega arith)
 
-pub copy-names-spec : {M : Type 1} → statement M
-copy-names-spec =
+pub copy_names_spec : {M : Type 1} → statement M
+copy_names_spec =
     tie.close
     (tie.spec
     invariant-loop

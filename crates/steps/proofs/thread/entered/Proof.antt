@@ -22,5 +22,5 @@ returns c =
     ap (rec a.at (a.t.depth + 1) a.t.ended (set a.t.kinds a.t.depth a.kind) a.t.goes)
     c.copy-names.ensures
 
-pub entered-spec : {M : Type 1} → statement M
-entered-spec = tie.close (tie.spec element-write-u copy-names-requires add-u returns)
+pub entered_spec : {M : Type 1} → statement M
+entered_spec = tie.close (tie.spec element-write-u copy-names-requires add-u returns)

@@ -1,7 +1,7 @@
 -- `name_at` meets its contract: the byte at the place is the name, and past the names it is 0.
 use native.Mathlib.Omega.{arith}
 use mathlib.Core.Path.{◌∙◌}
-use Rattle.steps.proofs.Loops.{name-here, name-past}
+use Rattle.steps.proofs.Loops.{name_here, name_past}
 use borrow.Author.Rules.{rules}
 use Rattle.steps.proofs.thread.name_at.Statement.{statement}
 use Rattle.steps.proofs.thread.name_at.Tie as tie
@@ -22,12 +22,12 @@ returns c =
     let a = i.args in
     let n = i.requires.named a.j (search rules) in
     let e = c.size.ensures.0 in
-    (e ∙ name-here a.s.now a.from a.k a.j (search rules), omega arith)
+    (e ∙ name_here a.s.now a.from a.k a.j (search rules), omega arith)
 
 returns-2 : tie.Need-returns-2
 returns-2 c =
     let a = c.before.before.args in
-    (name-past a.s.now a.from a.k a.j (search rules), omega arith)
+    (name_past a.s.now a.from a.k a.j (search rules), omega arith)
 
-pub name-at-spec : {M : Type 1} → statement M
-name-at-spec = tie.close (tie.spec add-size shared-slice-read-size size-requires returns returns-2)
+pub name_at_spec : {M : Type 1} → statement M
+name_at_spec = tie.close (tie.spec add-size shared-slice-read-size size-requires returns returns-2)

@@ -14,5 +14,5 @@ returns c =
     let a = c.before.before.before.args in
     ap (rec a.at 0 false a.t.kinds a.t.goes) c.take-names.ensures
 
-pub newborn-spec : {M : Type 1} → statement M
-newborn-spec = tie.close (tie.spec take-names-requires returns)
+pub newborn_spec : {M : Type 1} → statement M
+newborn_spec = tie.close (tie.spec take-names-requires returns)

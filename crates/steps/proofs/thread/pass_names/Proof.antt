@@ -1,7 +1,7 @@
 -- `pass_names` meets its contract: the names before the next one are passed.
 use mathlib.Core.Path.{◌≡◌}
 use Prim.Native.Nat.{◌-◌, ◌≤◌}
-use Rattle.table.specs.Constants.{most-names}
+use Rattle.table.specs.Constants.{most_names}
 use Rattle.steps.specs.Records.{passed}
 use Rattle.steps.proofs.Loops.{passed_none, passed-next, passed-all}
 use borrow.Author.Rules.{rules}
@@ -10,10 +10,10 @@ use Rattle.steps.proofs.thread.pass_names.Statement.{statement}
 use Rattle.steps.proofs.thread.pass_names.Tie as tie
 
 abbrev invariant-loop : tie.invariant-loop
-invariant-loop names₀ d s from k here to first j₀ names j = (names ≡ passed names₀ d s from k j) × (j ≤ most-names - 1)
+invariant-loop names₀ d s from k here to first j₀ names j = (names ≡ passed names₀ d s from k j) × (j ≤ most_names - 1)
 
 abbrev decreases-loop : tie.decreases-loop
-decreases-loop names₀ d s from k here to first j₀ names j = most-names - j
+decreases-loop names₀ d s from k here to first j₀ names j = most_names - j
 
 mul-here : tie.Need-overflow-mul-here invariant-loop decreases-loop
 mul-here c = search rules
@@ -56,15 +56,15 @@ loop-less c = search rules
 
 loop-again : tie.Need-loop-preserved invariant-loop decreases-loop
 loop-again c = (
-  passed-next _ _ _ _ _ _ _ _ c.before.before.before.loop.invariant.0 c.before.name-at.ensures.0,
+  passed-next _ _ _ _ _ _ _ _ c.before.before.before.loop.invariant.0 c.before.name_at_lem.ensures.0,
   omega arith,
 )
 
 returns : tie.Need-returns invariant-loop decreases-loop
 returns c = passed-all _ _ _ _ _ _ _ c.before.loop.invariant.0 c.before.loop.invariant.1 (omega arith)
 
-pub pass-names-spec : {M : Type 1} → statement M
-pass-names-spec =
+pub pass_names_spec : {M : Type 1} → statement M
+pass_names_spec =
     tie.close
     (tie.spec
     invariant-loop

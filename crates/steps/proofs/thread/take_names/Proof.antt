@@ -1,7 +1,7 @@
 -- `take_names` meets its contract: the names before the next one are taken.
 use mathlib.Core.Path.{◌≡◌}
 use Prim.Native.Nat.{◌-◌, ◌≤◌}
-use Rattle.table.specs.Constants.{most-names}
+use Rattle.table.specs.Constants.{most_names}
 use Rattle.steps.specs.Records.{taken}
 use Rattle.steps.proofs.Loops.{taken_none, taken_next, taken-all}
 use borrow.Author.Rules.{rules}
@@ -10,10 +10,10 @@ use Rattle.steps.proofs.thread.take_names.Statement.{statement}
 use Rattle.steps.proofs.thread.take_names.Tie as tie
 
 abbrev invariant-loop : tie.invariant-loop
-invariant-loop names₀ given j₀ names j = (names ≡ taken names₀ given j) × (j ≤ most-names)
+invariant-loop names₀ given j₀ names j = (names ≡ taken names₀ given j) × (j ≤ most_names)
 
 abbrev decreases-loop : tie.decreases-loop
-decreases-loop names₀ given j₀ names j = most-names - j
+decreases-loop names₀ given j₀ names j = most_names - j
 
 loop-holds : tie.Need-loop-init invariant-loop decreases-loop
 loop-holds c = (taken_none _ _, omega arith)
@@ -36,8 +36,8 @@ loop-again c = (taken_next _ _ _ _ c.before.before.loop.invariant.0, omega arith
 returns : tie.Need-returns invariant-loop decreases-loop
 returns c = taken-all _ _ _ _ c.before.loop.invariant.0 c.before.loop.invariant.1 (omega arith)
 
-pub take-names-spec : {M : Type 1} → statement M
-take-names-spec =
+pub take_names_spec : {M : Type 1} → statement M
+take_names_spec =
     tie.close
     (tie.spec
     invariant-loop

@@ -3,7 +3,7 @@ use mathlib.Core.Path.{◌≡◌}
 use native.Mathlib.Omega.{arith}
 use Prim.Native.Nat.{◌+◌, ◌≤◌}
 use lib.ListN.{length, get_or}
-use Rattle.table.proofs.OpeningLaws.{call-absent, call-high, call-unnamed, call_fits, call-named}
+use Rattle.table.proofs.OpeningLaws.{call_absent, call_high, call_unnamed, call_fits, call_named}
 use borrow.Author.Rules.{rules}
 use Rattle.table.proofs.bodies.open_call.Statement.{statement}
 use Rattle.table.proofs.bodies.open_call.Tie as tie
@@ -13,7 +13,7 @@ add-if1 c = search rules
 
 returns : tie.Need-returns
 returns c =
-    let a = c.before.before.before.args in call-absent a.ks.now a.s.now a.at a.scope a.after
+    let a = c.before.before.before.args in call_absent a.ks.now a.s.now a.at a.scope a.after
     (omega arith)
 
 add-size : tie.Need-overflow-add-size
@@ -27,7 +27,7 @@ size-requires c κs = search rules
 
 returns-2 : tie.Need-returns-2
 returns-2 c =
-    let a = c.before.before.before.before.before.before.args in call-high a.ks.now a.s.now a.at
+    let a = c.before.before.before.before.before.before.args in call_high a.ks.now a.s.now a.at
     a.scope a.after (omega arith) (omega arith)
 
 shared-slice-read-q : tie.Need-shared-slice-read-q
@@ -60,15 +60,15 @@ returns-3 : tie.Need-returns-3
 returns-3 c =
     let a = c.before.before.before.before.before.before.before.before.before.before.before.args in
     let q : c.size2.result ≡ get_or a.ks.now (get_or a.s.now (a.at + 1) 0) 0 = cc in
-    rw q (call-named a.ks.now a.s.now a.at a.scope a.after (omega arith) (omega arith) (cc))
+    rw q (call_named a.ks.now a.s.now a.at a.scope a.after (omega arith) (omega arith) (cc))
 
 returns-4 : tie.Need-returns-4
 returns-4 c =
-    let a = c.before.before.before.before.before.before.before.before.before.before.args in call-unnamed
+    let a = c.before.before.before.before.before.before.before.before.before.before.args in call_unnamed
     a.ks.now a.s.now a.at a.scope a.after (omega arith) (omega arith) (cc)
 
-pub open-call-spec : {M : Type 1} → statement M
-open-call-spec =
+pub open_call_spec : {M : Type 1} → statement M
+open_call_spec =
     tie.close
     (tie.spec
     add-if1

@@ -2,11 +2,11 @@
 use native.Mathlib.Omega.{arith}
 use lib.ListN.{get_or}
 use Rattle.table.specs.Constants.{LOCK, FORK, CHOICE}
-use Rattle.table.proofs.OpeningLaws.{no_kind, scope-low, past_end, unknown, end-first, end-closes}
-use Rattle.table.proofs.OpeningLaws.{other-closes}
-use Rattle.table.proofs.OpeningLaws.{other-stray, new-full, new-made, deep, lock-absent, lock-unscoped}
-use Rattle.table.proofs.OpeningLaws.{lock-opens}
-use Rattle.table.proofs.OpeningLaws.{new-fits, fork-full, fork-opens, choice-opens, call_opens, mirror-opens}
+use Rattle.table.proofs.OpeningLaws.{no_kind, scope_low, past_end, unknown, end_first, end_closes}
+use Rattle.table.proofs.OpeningLaws.{other_closes}
+use Rattle.table.proofs.OpeningLaws.{other_stray, new_full, new_made, deep, lock_absent, lock_unscoped}
+use Rattle.table.proofs.OpeningLaws.{lock_opens}
+use Rattle.table.proofs.OpeningLaws.{new_fits, fork_full, fork_opens, choice_opens, call_opens, mirror_opens}
 use borrow.Author.Rules.{rules}
 use Rattle.table.proofs.bodies.open_item.Statement.{statement}
 use Rattle.table.proofs.bodies.open_item.Tie as tie
@@ -27,7 +27,7 @@ add-t20 c = search rules
 
 returns-2 : tie.Need-returns-2
 returns-2 c =
-    let a = c.before.before.before.before.before.before.before.args in new-full a.ks.now a.s.now
+    let a = c.before.before.before.before.before.before.before.args in new_full a.ks.now a.s.now
     a.at a.depth a.first a.own a.scope a.n (omega arith) (omega arith) (omega arith)
 
 add-t22 : tie.Need-overflow-add-t22
@@ -46,7 +46,7 @@ add-t26 : tie.Need-overflow-add-t26
 add-t26 c =
     let a = c.before.before.before.before.before.before.before.args in
     record {
-      fits = new-fits a.at a.own a.scope a.n
+      fits = new_fits a.at a.own a.scope a.n
           c.before.before.before.before.before.before.before.requires (omega arith);
     }
 
@@ -63,7 +63,7 @@ add-if5 c = search rules
 
 returns-4 : tie.Need-returns-4
 returns-4 c =
-    let a = c.before.before.before.before.before.before.before.before.args in lock-absent a.ks.now
+    let a = c.before.before.before.before.before.before.before.before.args in lock_absent a.ks.now
     a.s.now a.at a.depth a.first a.own a.scope a.n (omega arith)
     c.before.before.before.before.before.before.before.before.requires (omega arith) (omega arith)
     (omega arith)
@@ -80,7 +80,7 @@ wide-requires c κs = search rules
 in-scope-requires : tie.Need-in-scope-requires
 in-scope-requires c κs =
     let a = c.before.before.before.before.before.before.before.before.before.before.args in
-    scope-low a.at a.own a.scope a.n
+    scope_low a.at a.own a.scope a.n
     c.before.before.before.before.before.before.before.before.before.before.requires
 
 add-t37 : tie.Need-overflow-add-t37
@@ -93,7 +93,7 @@ returns-5 c =
 
 returns-6 : tie.Need-returns-6
 returns-6 c =
-    let a = c.before.before.before.before.before.before.before.before.args in fork-full a.ks.now
+    let a = c.before.before.before.before.before.before.before.before.args in fork_full a.ks.now
     a.s.now a.at a.depth a.first a.own a.scope a.n (omega arith)
     c.before.before.before.before.before.before.before.before.requires (omega arith) (omega arith)
     (omega arith)
@@ -120,7 +120,7 @@ open-call-requires c κs =
     let a = c.before.before.before.before.before.before.args in
     record {
       inside = omega arith;
-      below = scope-low a.at a.own a.scope a.n
+      below = scope_low a.at a.own a.scope a.n
           c.before.before.before.before.before.before.requires;
     }
 
@@ -130,56 +130,56 @@ open-mirror-requires c κs =
 
 returns-8 : tie.Need-returns-8
 returns-8 c =
-    let a = c.before.before.before.before.before.before.before.args in end-first a.ks.now a.s.now
+    let a = c.before.before.before.before.before.before.before.args in end_first a.ks.now a.s.now
     a.at a.depth a.first a.own a.scope a.n (omega arith) (omega arith) (cc)
 
 returns-9 : tie.Need-returns-9
 returns-9 c =
-    let a = c.before.before.before.before.before.before.before.args in end-closes a.ks.now a.s.now
+    let a = c.before.before.before.before.before.before.before.args in end_closes a.ks.now a.s.now
     a.at a.depth a.first a.own a.scope a.n (omega arith) (omega arith) (cc)
 
 returns-10 : tie.Need-returns-10
 returns-10 c =
-    let a = c.before.before.before.before.before.before.before.args in new-made a.ks.now a.s.now
+    let a = c.before.before.before.before.before.before.before.args in new_made a.ks.now a.s.now
     a.at a.depth a.first a.own a.scope a.n (omega arith)
     c.before.before.before.before.before.before.before.requires (omega arith) (omega arith)
 
 returns-11 : tie.Need-returns-11
 returns-11 c =
     let a = c.before.before.before.before.before.before.before.before.before.before.before.before.args in
-    lock-opens a.ks.now a.s.now a.at a.depth a.first a.own a.scope a.n (omega arith)
+    lock_opens a.ks.now a.s.now a.at a.depth a.first a.own a.scope a.n (omega arith)
     c.before.before.before.before.before.before.before.before.before.before.before.before.requires
     (omega arith) (omega arith) (omega arith) (cc)
 
 returns-12 : tie.Need-returns-12
 returns-12 c =
     let a = c.before.before.before.before.before.before.before.before.before.before.before.before.args in
-    lock-unscoped a.ks.now a.s.now a.at a.depth a.first a.own a.scope a.n
+    lock_unscoped a.ks.now a.s.now a.at a.depth a.first a.own a.scope a.n
     (omega arith)
     c.before.before.before.before.before.before.before.before.before.before.before.before.requires
     (omega arith) (omega arith) (omega arith) (cc)
 
 returns-13 : tie.Need-returns-13
 returns-13 c =
-    let a = c.before.before.before.before.before.before.before.before.args in fork-opens a.ks.now
+    let a = c.before.before.before.before.before.before.before.before.args in fork_opens a.ks.now
     a.s.now a.at a.depth a.first a.own a.scope a.n (omega arith)
     c.before.before.before.before.before.before.before.before.requires (omega arith) (omega arith)
     (omega arith)
 
 returns-14 : tie.Need-returns-14
 returns-14 c =
-    let a = c.before.before.before.before.before.before.before.args in choice-opens a.ks.now a.s.now
+    let a = c.before.before.before.before.before.before.before.args in choice_opens a.ks.now a.s.now
     a.at a.depth a.first a.own a.scope a.n (omega arith)
     c.before.before.before.before.before.before.before.requires (omega arith) (omega arith)
 
 returns-15 : tie.Need-returns-15
 returns-15 c =
-    let a = c.before.before.before.before.before.before.before.args in other-closes a.ks.now a.s.now
+    let a = c.before.before.before.before.before.before.before.args in other_closes a.ks.now a.s.now
     a.at a.depth a.first a.own a.scope a.n (omega arith) (omega arith) (cc)
 
 returns-16 : tie.Need-returns-16
 returns-16 c =
-    let a = c.before.before.before.before.before.before.before.args in other-stray a.ks.now a.s.now
+    let a = c.before.before.before.before.before.before.before.args in other_stray a.ks.now a.s.now
     a.at a.depth a.first a.own a.scope a.n (omega arith) (omega arith) (cc)
 
 returns-17 : tie.Need-returns-17
@@ -191,7 +191,7 @@ returns-17 c =
 returns-18 : tie.Need-returns-18
 returns-18 c =
     let a = c.before.before.before.before.before.before.before.args in rw c.open-mirror.ensures
-    (mirror-opens a.ks.now a.s.now a.at a.depth a.first a.own a.scope a.n (omega arith)
+    (mirror_opens a.ks.now a.s.now a.at a.depth a.first a.own a.scope a.n (omega arith)
     (omega arith))
 
 returns-19 : tie.Need-returns-19
@@ -202,8 +202,8 @@ returns-19 c =
     c.match.rest.0.0.0.0.1 c.match.rest.0.0.0.1 c.match.rest.0.0.1 c.match.rest.0.1
     c.match.rest.1)
 
-pub open-item-spec : {M : Type 1} → statement M
-open-item-spec =
+pub open_item_spec : {M : Type 1} → statement M
+open_item_spec =
     tie.close
     (tie.spec
     returns

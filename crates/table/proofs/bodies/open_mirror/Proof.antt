@@ -1,8 +1,8 @@
 -- `open_mirror` meets its contract: each return is one case of reading a MIRROR.
 use native.Mathlib.Omega.{arith}
-use Rattle.table.specs.laws.Readers.{Ready}
-use Rattle.table.proofs.OpeningLaws.{scope-low, new-fits, mirror-full, mirror-absent, mirror-unscoped}
-use Rattle.table.proofs.OpeningLaws.{mirror-made}
+use Rattle.table.specs.Laws.Readers.{Ready}
+use Rattle.table.proofs.OpeningLaws.{scope_low, new_fits, mirror_full, mirror_absent, mirror_unscoped}
+use Rattle.table.proofs.OpeningLaws.{mirror_made}
 use borrow.Author.Rules.{rules}
 use Rattle.table.proofs.scope.wide.Reads as wide-reads
 use Rattle.table.proofs.scope.in_scope.Reads as in-scope-reads
@@ -30,12 +30,12 @@ add-name c = search rules
 
 returns : tie.Need-returns
 returns c =
-    let a = c.before.before.args in mirror-full a.s.now a.at a.own a.scope a.n (omega arith)
+    let a = c.before.before.args in mirror_full a.s.now a.at a.own a.scope a.n (omega arith)
 
 returns-2 : tie.Need-returns-2
 returns-2 c =
     let a = c.before.before.before.args in
-    mirror-absent a.s.now a.at a.own a.scope a.n (omega arith) (omega arith)
+    mirror_absent a.s.now a.at a.own a.scope a.n (omega arith) (omega arith)
 
 shared-slice-read-wide : tie.Need-shared-slice-read-wide
 shared-slice-read-wide c = search rules
@@ -47,7 +47,7 @@ in-scope-requires : tie.Need-in-scope-requires
 in-scope-requires c κs =
     let i = c.before in
     let a = i.before.before.before.before.args in
-    scope-low a.at a.own a.scope a.n (ready_at i)
+    scope_low a.at a.own a.scope a.n (ready_at i)
 
 add-t15 : tie.Need-overflow-add-t15
 add-t15 c = search rules
@@ -65,7 +65,7 @@ add-t19 : tie.Need-overflow-add-t19
 add-t19 c =
     let i = c.before.before.before in
     let a = i.before.before.before.before.args in
-    record { fits = new-fits a.at a.own a.scope a.n (ready_at i) (omega arith) }
+    record { fits = new_fits a.at a.own a.scope a.n (ready_at i) (omega arith) }
 
 add-t20 : tie.Need-overflow-add-t20
 add-t20 c = search rules
@@ -77,16 +77,16 @@ returns-3 : tie.Need-returns-3
 returns-3 c =
     let i = c.before.before.before.before in
     let a = i.before.before.before.before.args in
-    mirror-made a.s.now a.at a.own a.scope a.n (omega arith) (omega arith) (ready_at i) (cc)
+    mirror_made a.s.now a.at a.own a.scope a.n (omega arith) (omega arith) (ready_at i) (cc)
 
 returns-4 : tie.Need-returns-4
 returns-4 c =
     let i = c.before.before.before in
     let a = i.before.before.before.before.args in
-    mirror-unscoped a.s.now a.at a.own a.scope a.n (omega arith) (omega arith) (cc)
+    mirror_unscoped a.s.now a.at a.own a.scope a.n (omega arith) (omega arith) (cc)
 
-pub open-mirror-spec : {M : Type 1} → statement M
-open-mirror-spec =
+pub open_mirror_spec : {M : Type 1} → statement M
+open_mirror_spec =
     tie.close
     (tie.spec
     add-name

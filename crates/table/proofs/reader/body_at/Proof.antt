@@ -94,29 +94,29 @@ module _ {M : Type 1} {𝓤 : Ura M} (𝓛 : Logic 𝓤) (mem : Memory → SProp
         returns ! (look ! 4 refl) $ forget ! 0 refl $ forget ! 2 refl $ forget ! 4 refl $
         move ! (4 ∷ 5 ∷ []) $ free1 ! $ move ! (2 ∷ 3 ∷ []) $ free1 ! $ free1 ! $ free0 ! $ by ! exits)))
 
-body-at-walks : {M : Type 1} {𝓤 : Ura M} (𝓛 : Logic 𝓤) (mem : Memory → SProp 𝓤)
+body_at_walks : {M : Type 1} {𝓤 : Ura M} (𝓛 : Logic 𝓤) (mem : Memory → SProp 𝓤)
     (run : Routine → Fun 𝓤) (C : Calls 𝓤 𝓛.H) (Λ : Loops 𝓤 𝓛.H)
     → Walks 𝓛 body_at.ended stayed (WpFn 𝓤 𝓛.H C Λ code.function) (body_at.clauses 𝓛 mem run)
-body-at-walks {𝓤 = 𝓤} 𝓛 mem run C Λ =
+body_at_walks {𝓤 = 𝓤} 𝓛 mem run C Λ =
     walked 𝓛 body_at.ended stayed (body_at.clauses 𝓛 mem run) (WpFn 𝓤 𝓛.H C Λ code.function)
     (λ κs. (shr_slice_vals, (uint_vals w64, tt))) (λ κs. (shr_slice_Tells (named 0) κs.0 u8, (uint_Tells w64, tt)))
     (λ κs qs bounds a g are. via 𝓤 _ (fst∗ 𝓤 _ (emp 𝓤))
     (walk 𝓛 mem run κs.0 qs.0 a.0 a.1.0 are.1.0.1 C Λ are.0))
 
-body-at-meets : {M : Type 1} {𝓤 : Ura M} (𝓛 : Logic 𝓤) → (mem : Memory → SProp 𝓤)
+body_at_meets : {M : Type 1} {𝓤 : Ura M} (𝓛 : Logic 𝓤) → (mem : Memory → SProp 𝓤)
     (run : Routine → Fun 𝓤) (𝓣 : Tables 𝓤 𝓛.H)
     → Meets 𝓛 body_at.signature (WpFn 𝓤 𝓛.H 𝓣.C 𝓣.Λ code.function) (body_at.spec 𝓛 mem run)
-body-at-meets {𝓤 = 𝓤} 𝓛 mem run 𝓣 =
+body_at_meets {𝓤 = 𝓤} 𝓛 mem run 𝓣 =
     walk_Meets 𝓛 body_at.ended stayed (
       Goes-none_slice 𝓛 1 (0 ∷ []) tt (plain (λ _. u8)) yes,
       (Goes-none 𝓛 1 (λ _. usize) yes (λ κs x f. refl), tt),
     )
     (body_at.clauses 𝓛 mem run) (WpFn 𝓤 𝓛.H 𝓣.C 𝓣.Λ code.function)
-    (WpFn-mono 𝓤 𝓛.H 𝓛.laws 𝓣 code.function) (body-at-walks 𝓛 mem run 𝓣.C 𝓣.Λ)
+    (WpFn-mono 𝓤 𝓛.H 𝓛.laws 𝓣 code.function) (body_at_walks 𝓛 mem run 𝓣.C 𝓣.Λ)
 
-pub body-at-spec : {M : Type 1} → stated.statement M
+pub body_at_spec : {M : Type 1} → stated.statement M
 unfolding code.routine tables_of
-body-at-spec 𝓤 𝓛 𝓜 𝓡 =
+body_at_spec 𝓤 𝓛 𝓜 𝓡 =
     entered 𝓤 𝓛.H (triple_of 𝓛 body_at.signature (body_at.spec 𝓛 𝓜.mem 𝓡.run))
     (tables 𝓤 𝓛.H 𝓜 𝓡 code.env).C (tables 𝓤 𝓛.H 𝓜 𝓡 code.env).Λ #body-at code.function (code.unfolded 𝓤 𝓛.H 𝓜 𝓡)
-    (body-at-meets 𝓛 𝓜.mem 𝓡.run (tables_of 𝓤 𝓛.H 𝓜 (tables 𝓤 𝓛.H 𝓜 𝓡 code.env)))
+    (body_at_meets 𝓛 𝓜.mem 𝓡.run (tables_of 𝓤 𝓛.H 𝓜 (tables 𝓤 𝓛.H 𝓜 𝓡 code.env)))

@@ -44,11 +44,11 @@ use denote.Triple.Table.{entered, cited}
 use denote.Triple.Walked.{says, needs, Stays, stay_none, walk_of, Goes-none, Walks, ends_at, walked, walk_Meets}
 use denote.Triple.Clauses.{ensured, lasts}
 use denote.Exit.{yes}
-use Rattle.table.specs.laws.Readers.{bodyAnswer, AtBody}
+use Rattle.table.specs.Laws.Readers.{body_answer, AtBody}
 use Rattle.table.specs.declared.bodies.BlockRead.{BlockRead}
 use Rattle.table.specs.declared.reader.Body.{Body}
-use Rattle.table.proofs.WalkLaws.{lent, reader, tokens, beside, beside_at, beside-vals, beside-tell}
-use Rattle.table.proofs.WalkLaws.{beside-stay, beside-go, beside-copy}
+use Rattle.table.proofs.WalkLaws.{lent, reader, tokens, beside, beside_at, beside_vals, beside_tell}
+use Rattle.table.proofs.WalkLaws.{beside_stay, beside_go, beside_copy}
 use Rattle.table.specs.contracts.reader.Body as T
 use Rattle.table.proofs.reader.Body.TheLaws as T'
 use Rattle.table.specs.contracts.bodies.BlockRead as R
@@ -70,7 +70,7 @@ abbrev L : (κs : Lfts 2) → LL.Laws (D κs)
 L κs = T'.the_laws (named_lft 2 0 tt κs)
 
 abbrev stayed : Stays (read-body.ended).signature.params (read-body.ended).kept
-stayed = (stay_none reader yes, beside-stay)
+stayed = (stay_none reader yes, beside_stay)
 
 -- the contract that the proof cites
 abbrev ReadFrom : {M : Type 1} {𝓤 : Ura M} (𝓛 : Logic 𝓤) (mem : Memory → SProp 𝓤) (run : Routine → Fun 𝓤)
@@ -96,7 +96,7 @@ module _ {M : Type 1} {𝓤 : Ura M} (𝓛 : Logic 𝓤) (mem : Memory → SProp
   vals = (vb ∷ [], beside_at ks k i)
 
   abbrev answer : BlockRead
-  answer = bodyAnswer ks.now b.section.now b.at k i
+  answer = body_answer ks.now b.section.now b.at k i
 
   abbrev Post : Val → SProp 𝓤
   Post = (walk_of 𝓛 read-body.ended stayed (read-body.clauses 𝓛 mem run)).post ((κs, qs, tt, args, vals), tt)
@@ -109,15 +109,15 @@ module _ {M : Type 1} {𝓤 : Ura M} (𝓛 : Logic 𝓤) (mem : Memory → SProp
   abbrev passed : Args read-from.signature κs
   passed = (b.section, (b.at, (ks, (k, (i, tt)))))
 
-  abbrev passed-vals : Vals read-from.signature κs
-  passed-vals = (lent b.section ∷ [], (vint w64 b.at ∷ [], beside_at ks k i))
+  abbrev passed_vals : Vals read-from.signature κs
+  passed_vals = (lent b.section ∷ [], (vint w64 b.at ∷ [], beside_at ks k i))
 
   abbrev to : (ReadFrom 𝓛 mem run).Ghost
-  to = ((κs, qs, tt, passed, passed-vals), tt)
+  to = ((κs, qs, tt, passed, passed_vals), tt)
 
-  asked : ent 𝓤 (on_entry 𝓛 read-from.signature κs qs passed passed-vals) ((ReadFrom 𝓛 mem run).pre to)
+  asked : ent 𝓤 (on_entry 𝓛 read-from.signature κs qs passed passed_vals) ((ReadFrom 𝓛 mem run).pre to)
   asked =
-      qed 𝓛 (tokens κs qs ∷ ‵ (owns (ShrSlice (named 0) κs.0 u8 ∷ usize ∷ beside κs) passed passed-vals) ∷ []) ∵
+      qed 𝓛 (tokens κs qs ∷ ‵ (owns (ShrSlice (named 0) κs.0 u8 ∷ usize ∷ beside κs) passed passed_vals) ∷ []) ∵
       says ! ready $ done !
 
   -- what the parameters own gives what the callee asks, and is kept
@@ -126,7 +126,7 @@ module _ {M : Type 1} {𝓤 : Ura M} (𝓛 : Logic 𝓤) (mem : Memory → SProp
   apart =
       qed 𝓛 (tokens κs qs ∷ ‵ All ∷ []) ∵ move ! (1 ∷ []) $
       use1 𝓛 (‵ All ⊛ ‵ All) (twices 𝓛 (reader κs ∷ beside κs)
-      (LL.copy (D κs) (T'.the_copy (named_lft 2 0 tt κs)) 𝓛, beside-copy 𝓛 κs) args vals) $ split ! $ fsplit ! $
+      (LL.copy (D κs) (T'.the_copy (named_lft 2 0 tt κs)) 𝓛, beside_copy 𝓛 κs) args vals) $ split ! $ fsplit ! $
       -- [what the reader owns; what the others own; what all own; the tokens]
       use1 𝓛 (given (vb ∷ [] ≡ vb ∷ []) (‵ (all_own (D κs).parts (L κs) fields)))
       (own_open 𝓛 (D κs) (L κs) fields vb) $ learn ! (λ _. fsplit ! $ move ! (1 ∷ []) $ fsplit ! $
@@ -183,31 +183,31 @@ module _ {M : Type 1} {𝓤 : Ura M} (𝓛 : Logic 𝓤) (mem : Memory → SProp
         move ! (7 ∷ 8 ∷ []) $ free1 ! $ move ! (5 ∷ 6 ∷ []) $ free1 ! $ move ! (3 ∷ 4 ∷ []) $ free1 ! $ free0 ! $
         by ! (exits r u e))))))))))))
 
-read-body-walks : {M : Type 1} {𝓤 : Ura M} (𝓛 : Logic 𝓤) (mem : Memory → SProp 𝓤)
+read_body_walks : {M : Type 1} {𝓤 : Ura M} (𝓛 : Logic 𝓤) (mem : Memory → SProp 𝓤)
     (run : Routine → Fun 𝓤) (C : Calls 𝓤 𝓛.H) (Λ : Loops 𝓤 𝓛.H) → FmC 𝓤 𝓛.H 𝓛.laws C
     → Triple 𝓤 (C #read-from) (ReadFrom 𝓛 mem run)
     → Walks 𝓛 read-body.ended stayed (WpFn 𝓤 𝓛.H C Λ code.function) (read-body.clauses 𝓛 mem run)
-read-body-walks {𝓤 = 𝓤} 𝓛 mem run C Λ fm known =
+read_body_walks {𝓤 = 𝓤} 𝓛 mem run C Λ fm known =
     walked 𝓛 read-body.ended stayed (read-body.clauses 𝓛 mem run) (WpFn 𝓤 𝓛.H C Λ code.function)
-    (λ κs. (LL.vals (D κs) (L κs), beside-vals κs)) (λ κs. (LL.tells (D κs) (L κs), beside-tell κs))
+    (λ κs. (LL.vals (D κs) (L κs), beside_vals κs)) (λ κs. (LL.tells (D κs) (L κs), beside_tell κs))
     (λ κs qs bounds a g are. needs 𝓤 (AtBody a.0.at a.1.1.0 a.1.1.1.0) _ (λ ready.
     walk 𝓛 mem run κs qs a.0 a.1.0 a.1.1.0 a.1.1.1.0 ready C Λ fm known
     ((LL.lawful (D κs) (L κs) 𝓛).typed a.0 _ are.0).0 are.1.0 are.1.1.0.1 are.1.1.1.0.1))
 
-read-body-meets : {M : Type 1} {𝓤 : Ura M} (𝓛 : Logic 𝓤) (mem : Memory → SProp 𝓤)
+read_body_meets : {M : Type 1} {𝓤 : Ura M} (𝓛 : Logic 𝓤) (mem : Memory → SProp 𝓤)
     (run : Routine → Fun 𝓤) (𝓣 : Tables 𝓤 𝓛.H) → Triple 𝓤 (𝓣.C #read-from) (ReadFrom 𝓛 mem run)
     → Meets 𝓛 read-body.signature (WpFn 𝓤 𝓛.H 𝓣.C 𝓣.Λ code.function) (read-body.spec 𝓛 mem run)
-read-body-meets {𝓤 = 𝓤} 𝓛 mem run 𝓣 known =
-    walk_Meets 𝓛 read-body.ended stayed (Goes-none 𝓛 2 reader yes (λ κs x f. refl), beside-go 𝓛)
+read_body_meets {𝓤 = 𝓤} 𝓛 mem run 𝓣 known =
+    walk_Meets 𝓛 read-body.ended stayed (Goes-none 𝓛 2 reader yes (λ κs x f. refl), beside_go 𝓛)
     (read-body.clauses 𝓛 mem run) (WpFn 𝓤 𝓛.H 𝓣.C 𝓣.Λ code.function)
     (WpFn-mono 𝓤 𝓛.H 𝓛.laws 𝓣 code.function)
-    (read-body-walks 𝓛 mem run 𝓣.C 𝓣.Λ (fm_of 𝓤 𝓛.H 𝓛.laws 𝓣) known)
+    (read_body_walks 𝓛 mem run 𝓣.C 𝓣.Λ (fm_of 𝓤 𝓛.H 𝓛.laws 𝓣) known)
 
-pub read-body-spec : {M : Type 1} → stated.statement M
+pub read_body_spec : {M : Type 1} → stated.statement M
 unfolding code.routine tables_of
-read-body-spec 𝓤 𝓛 𝓜 𝓡 =
+read_body_spec 𝓤 𝓛 𝓜 𝓡 =
     entered 𝓤 𝓛.H (triple_of 𝓛 read-body.signature (read-body.spec 𝓛 𝓜.mem 𝓡.run))
     (tables 𝓤 𝓛.H 𝓜 𝓡 code.env).C (tables 𝓤 𝓛.H 𝓜 𝓡 code.env).Λ #read-body code.function (code.unfolded 𝓤 𝓛.H 𝓜 𝓡)
-    (read-body-meets 𝓛 𝓜.mem 𝓡.run (tables_of 𝓤 𝓛.H 𝓜 (tables 𝓤 𝓛.H 𝓜 𝓡 code.env))
+    (read_body_meets 𝓛 𝓜.mem 𝓡.run (tables_of 𝓤 𝓛.H 𝓜 (tables 𝓤 𝓛.H 𝓜 𝓡 code.env))
     (cited 𝓤 𝓛.H (ReadFrom 𝓛 𝓜.mem 𝓡.run) 𝓜 𝓡 code.env #read-from read-from-def.routine
     code.calls-table::reader::read-from (read-from-thm.met 𝓤 𝓛 𝓜 𝓡)))

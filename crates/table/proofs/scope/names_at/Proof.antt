@@ -6,8 +6,8 @@ use mathlib.Core.Path.{◌≡◌, refl, sym, ◌∙◌}
 use lib.ListN.{drop}
 use native.Mathlib.Omega.{arith}
 use Rattle.table.specs.Check.{named}
-use Rattle.table.proofs.NameLaws.{names-end, names-none, names-good, names-bad}
-use Rattle.table.specs.laws.ScopeMask.{bits}
+use Rattle.table.proofs.NameLaws.{names_end, names_none, names_good, names_bad}
+use Rattle.table.specs.Laws.ScopeMask.{bits}
 
 abbrev invariant-loop : tie.invariant-loop
 invariant-loop s at q scope i₀ left₀ i left = named q (bits scope) (drop at s) ≡ named left (bits scope) (drop i s)
@@ -19,7 +19,7 @@ loop-holds : tie.Need-loop-init invariant-loop decreases-loop
 loop-holds c = refl
 
 returns : tie.Need-returns invariant-loop decreases-loop
-returns c = sym (c.before.before.loop.invariant ∙ names-end c.before.before.before.before.args.s.now
+returns c = sym (c.before.before.loop.invariant ∙ names_end c.before.before.before.before.args.s.now
     (bits c.before.before.before.before.args.scope) c.before.before.loop.i
     c.before.before.loop.left (omega arith) (omega arith))
 
@@ -42,26 +42,26 @@ loop-less : tie.Need-loop-smaller invariant-loop decreases-loop
 loop-less c = search rules
 
 loop-again : tie.Need-loop-preserved invariant-loop decreases-loop
-loop-again c = c.before.before.before.before.before.before.loop.invariant ∙ names-good
+loop-again c = c.before.before.before.before.before.before.loop.invariant ∙ names_good
     c.before.before.before.before.before.before.before.before.args.s.now
     (bits c.before.before.before.before.before.before.before.before.args.scope)
     c.before.before.before.before.before.before.loop.i
     c.before.before.before.before.before.before.loop.left (omega arith) (omega arith) (cc)
 
 returns-2 : tie.Need-returns-2 invariant-loop decreases-loop
-returns-2 c = sym (c.before.before.before.before.before.before.loop.invariant ∙ names-bad
+returns-2 c = sym (c.before.before.before.before.before.before.loop.invariant ∙ names_bad
     c.before.before.before.before.before.before.before.before.args.s.now
     (bits c.before.before.before.before.before.before.before.before.args.scope)
     c.before.before.before.before.before.before.loop.i
     c.before.before.before.before.before.before.loop.left (omega arith) (omega arith) (cc))
 
 returns-3 : tie.Need-returns-3 invariant-loop decreases-loop
-returns-3 c = sym (c.before.loop.invariant ∙ names-none (drop c.before.loop.i
+returns-3 c = sym (c.before.loop.invariant ∙ names_none (drop c.before.loop.i
     c.before.before.before.args.s.now) (bits c.before.before.before.args.scope)
     c.before.loop.left (omega arith))
 
-pub names-at-spec : {M : Type 1} → statement M
-names-at-spec =
+pub names_at_spec : {M : Type 1} → statement M
+names_at_spec =
     tie.close
     (tie.spec
     invariant-loop

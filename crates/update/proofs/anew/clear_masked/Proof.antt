@@ -3,8 +3,8 @@ use native.Mathlib.Omega.{arith}
 use borrow.Author.Rules.{rules}
 use Rattle.rows.proofs.clear.Reads as clear_reads
 use Rattle.settle.proofs.due.highest.Reads as highest-reads
-use Rattle.settle.specs.laws.Masks.{has-top}
-use Rattle.update.proofs.AnewLaws.{Clearing, clearing-start, AtRow, at_row, clearing-turn, clearing-end}
+use Rattle.settle.specs.Laws.Masks.{has_top}
+use Rattle.update.proofs.AnewLaws.{Clearing, clearing_start, AtRow, at_row, clearing_turn, clearing_end}
 use Rattle.update.proofs.anew.clear_masked.Statement.{statement}
 use Rattle.update.proofs.anew.clear_masked.Tie as tie
 use Rattle.update.proofs.anew.clear_masked.Reads as reads
@@ -29,12 +29,12 @@ here h =
     let l = h.before.before.loop in
     let start = h.before.before.before.before in
     at_row start.args.n start.args.mask start.args.model.now start.pre l.model l.left
-    h.highest.result l.inv (has-top l.left h.highest.result h.highest.ensures)
+    h.highest.result l.inv (has_top l.left h.highest.result h.highest.ensures)
 
 loop-holds : tie.Need-loop-init invariant-loop decreases-loop
 loop-holds c =
     let start = c.before in
-    clearing-start start.args.n start.args.mask start.args.model.now start.requires
+    clearing_start start.args.n start.args.mask start.args.model.now start.requires
 
 highest-requires : tie.Need-highest-requires invariant-loop decreases-loop
 highest-requires c κs = omega arith
@@ -66,8 +66,8 @@ loop-again c =
     let l = row.before.before.loop in
     let start = row.before.before.before.before in
     let cleared = c.before.before.clear in
-    clearing-turn start.args.n start.args.mask start.args.model.now start.requires l.model l.left
-    row.highest.result l.invariant (has-top l.left row.highest.result row.highest.ensures) cleared.new.0
+    clearing_turn start.args.n start.args.mask start.args.model.now start.requires l.model l.left
+    row.highest.result l.invariant (has_top l.left row.highest.result row.highest.ensures) cleared.new.0
     cleared.ensures
 
 same_length : tie.Need-same-length invariant-loop decreases-loop
@@ -77,11 +77,11 @@ returns : tie.Need-returns invariant-loop decreases-loop
 returns c =
     let start = c.before.before.before in
     let l = c.before.loop in
-    clearing-end start.args.n start.args.mask start.args.model.now start.requires l.model l.left
+    clearing_end start.args.n start.args.mask start.args.model.now start.requires l.model l.left
     (omega arith) l.invariant
 
-pub clear-masked-spec : {M : Type 1} → statement M
-clear-masked-spec =
+pub clear_masked_spec : {M : Type 1} → statement M
+clear_masked_spec =
     tie.close
     (tie.spec
     invariant-loop

@@ -1,7 +1,7 @@
 -- `rework` meets its contract: the rows of the routines that reach r are cleared, and then worked out.
 use mathlib.Core.Path.{◌∙◌}
 use native.Mathlib.Omega.{arith}
-use Rattle.update.proofs.AnewLaws.{can-reach, can-clear, can-settle-due, reworked}
+use Rattle.update.proofs.AnewLaws.{can_reach, can_clear, can_settle_due, reworked}
 use Rattle.update.proofs.anew.rework.Statement.{statement}
 use Rattle.update.proofs.anew.rework.Tie as tie
 
@@ -9,14 +9,14 @@ reached-requires : tie.Need-reached-requires
 reached-requires c κs =
     let a = c.before.before.before.before.before.args in
     let p = c.before.before.before.before.before.requires in
-    can-reach a.ks.now a.s.now a.starts.now a.callers.now a.r a.model.now p
+    can_reach a.ks.now a.s.now a.starts.now a.callers.now a.r a.model.now p
 
 clear-masked-requires : tie.Need-clear-masked-requires
 clear-masked-requires c κs =
     let a = c.before.before.before.before.before.before.before.args in
     let p = c.before.before.before.before.before.before.before.requires in
     let m = c.before.reached in
-    can-clear a.ks.now a.s.now a.starts.now a.callers.now a.r a.model.now p m.result (omega
+    can_clear a.ks.now a.s.now a.starts.now a.callers.now a.r a.model.now p m.result (omega
     (arith, m.type-inv)) m.ensures
 
 settle-due-requires : tie.Need-settle-due-requires
@@ -25,7 +25,7 @@ settle-due-requires c κs =
     let p = c.before.before.before.before.before.before.before.before.before.before.before.requires in
     let m = c.before.before.before.before.before.reached in
     let k = c.before.before.before.clear-masked in
-    can-settle-due a.ks.now a.s.now a.starts.now a.callers.now a.r a.model.now p m.result
+    can_settle_due a.ks.now a.s.now a.starts.now a.callers.now a.r a.model.now p m.result
     (omega (arith, m.type-inv)) m.ensures k.new.0 k.ensures
 
 same_length : tie.Need-same-length
@@ -43,8 +43,8 @@ returns c =
     (arith, m.type-inv)) m.ensures k.new.0 k.ensures
     w.new.1.1.1.1.1.0 w.result w.ensures
 
-pub rework-spec : {M : Type 1} → statement M
-rework-spec =
+pub rework_spec : {M : Type 1} → statement M
+rework_spec =
     tie.close
     (tie.spec
     reached-requires

@@ -3,7 +3,7 @@ use mathlib.Core.Path.{refl}
 use Prim.Native.Nat.{◌-◌, ◌≤◌}
 use native.Mathlib.Omega.{arith}
 use borrow.Author.Rules.{rules}
-use Rattle.update.proofs.FitLaws.{NeededTo, needed-more}
+use Rattle.update.proofs.FitLaws.{NeededTo, needed_more}
 use Rattle.update.proofs.fits.needed.Statement.{statement}
 use Rattle.update.proofs.fits.needed.Tie as tie
 
@@ -31,12 +31,12 @@ loop-less c = search rules
 loop-again : tie.Need-loop-preserved invariant-loop decreases-loop
 loop-again c =
     let l = c.before.before.loop in
-    (omega arith, needed-more l.t l.i c.needed-for.result (omega arith) l.invariant.1 c.needed-for.ensures)
+    (omega arith, needed_more l.t l.i c.needed-for.result (omega arith) l.invariant.1 c.needed-for.ensures)
 
 returns : tie.Need-returns invariant-loop decreases-loop
 returns c = let l = c.before.loop in (l.invariant.1.long, λ j h. l.invariant.1.entries j (omega arith))
 
-pub needed-spec : {M : Type 1} → statement M
-needed-spec =
+pub needed_spec : {M : Type 1} → statement M
+needed_spec =
     tie.close
     (tie.spec invariant-loop decreases-loop loop-holds needed-for-requires array-write-t add-i loop-less loop-again returns)

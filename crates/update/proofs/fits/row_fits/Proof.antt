@@ -3,7 +3,7 @@ use Prim.Native.Nat.{◌+◌, ◌-◌, ◌*◌, ◌≤◌}
 use lib.Dec.{leb}
 use lib.ListN.{get_or}
 use Rattle.update.proofs.ZeroLaws.{ZeroWhere}
-use Rattle.update.proofs.FitLaws.{CellsFit, cells-none, cells-more, row_told, row-not, answers-le}
+use Rattle.update.proofs.FitLaws.{CellsFit, cells_none, cells_more, row_told, row_not, answers_le}
 use native.Mathlib.Omega.{arith}
 use borrow.Author.Rules.{rules}
 use Rattle.update.proofs.fits.row_fits.Statement.{statement}
@@ -19,7 +19,7 @@ mul-start : tie.Need-overflow-mul-start invariant-loop decreases-loop
 mul-start c = let b = c.before.requires.0 in search rules
 
 loop-holds : tie.Need-loop-init invariant-loop decreases-loop
-loop-holds c = let a = c.before.args in (omega arith, cells-none a.model.now a.r a.k)
+loop-holds c = let a = c.before.args in (omega arith, cells_none a.model.now a.r a.k)
 
 add-bad : tie.Need-overflow-add-bad invariant-loop decreases-loop
 add-bad c = search rules
@@ -46,7 +46,7 @@ loop-again c =
     let start = read.before.before.before.before in
     let a = start.args in (
       omega arith,
-      cells-more a.model.now a.needed.now a.r a.k l.i l.bad c.bits-outside.result (omega arith)
+      cells_more a.model.now a.needed.now a.r a.k l.i l.bad c.bits-outside.result (omega arith)
           start.requires.1 start.requires.2 (omega (arith, read.shared-slice-known2.given (65 * a.r + l.i)))
           c.bits-outside.ensures l.invariant.1,
     )
@@ -62,16 +62,16 @@ returns c =
     let l = c.before.before.before.loop in
     let a = c.before.before.before.before.before.args in
     row_told a.model.now a.r a.k l.i l.bad (leb (get_or a.model.now (65 * a.r + 64) 0) 1)
-    (omega arith) (omega arith) l.invariant.1 (answers-le (get_or a.model.now (65 * a.r + 64) 0))
+    (omega arith) (omega arith) l.invariant.1 (answers_le (get_or a.model.now (65 * a.r + 64) 0))
 
 returns-2 : tie.Need-returns-2 invariant-loop decreases-loop
 returns-2 c =
     let l = c.before.before.loop in
     let a = c.before.before.before.before.args in
-    row-not a.model.now a.r a.k l.i l.bad (omega arith) (λ e. omega arith) l.invariant.1
+    row_not a.model.now a.r a.k l.i l.bad (omega arith) (λ e. omega arith) l.invariant.1
 
-pub row-fits-spec : {M : Type 1} → statement M
-row-fits-spec =
+pub row_fits_spec : {M : Type 1} → statement M
+row_fits_spec =
     tie.close
     (tie.spec
     invariant-loop

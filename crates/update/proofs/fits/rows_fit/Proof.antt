@@ -3,7 +3,7 @@ use Prim.Native.Nat.{◌-◌, ◌≤◌}
 use native.Mathlib.Omega.{arith}
 use lib.ListN.{length}
 use borrow.Author.Rules.{rules}
-use Rattle.update.proofs.FitLaws.{RowsFitBelow, one-more-row, told-not, told-so}
+use Rattle.update.proofs.FitLaws.{RowsFitBelow, one_more_row, told_not, told_so}
 use Rattle.update.proofs.fits.rows_fit.Statement.{statement}
 use Rattle.update.proofs.fits.rows_fit.Tie as tie
 
@@ -34,7 +34,7 @@ returns : tie.Need-returns invariant-loop decreases-loop
 returns c =
     let fitted = c.before in
     let l = fitted.before.before.before.before.loop in
-    λ f. told-not fitted.row-fits.result _ c.if1.true fitted.row-fits.ensures (f l.r (omega arith))
+    λ f. told_not fitted.row-fits.result _ c.if1.true fitted.row-fits.ensures (f l.r (omega arith))
 
 add_r : tie.Need-overflow-add-r invariant-loop decreases-loop
 add_r c = search rules
@@ -49,15 +49,15 @@ loop-again c =
     let l = looped.loop in
     let a = looped.before.before.before.before.args in (
       omega arith,
-      one-more-row a.ks.now a.model.now l.r l.invariant.1
-          (told-so fitted.row-fits.result _ c.if1.false fitted.row-fits.ensures),
+      one_more_row a.ks.now a.model.now l.r l.invariant.1
+          (told_so fitted.row-fits.result _ c.if1.false fitted.row-fits.ensures),
     )
 
 returns-2 : tie.Need-returns-2 invariant-loop decreases-loop
 returns-2 c = let l = c.before.loop in λ r h. l.invariant.1 r (omega arith)
 
-pub rows-fit-spec : {M : Type 1} → statement M
-rows-fit-spec =
+pub rows_fit_spec : {M : Type 1} → statement M
+rows_fit_spec =
     tie.close
     (tie.spec
     invariant-loop

@@ -5,8 +5,8 @@ use Prim.Native.Nat.{ℕ, ◌-◌}
 use native.Mathlib.Omega.{arith}
 use lib.ListN.{length}
 use borrow.Author.Rules.{rules}
-use Rattle.update.proofs.ZeroLaws.{zero-answers}
-use Rattle.update.proofs.SameLaws.{SameTo, same_none, same_more, same-all}
+use Rattle.update.proofs.ZeroLaws.{zero_answers}
+use Rattle.update.proofs.SameLaws.{SameTo, same_none, same_more, same_all}
 use Rattle.update.proofs.same.same.Statement.{statement}
 use Rattle.update.proofs.same.same.Tie as tie
 
@@ -42,7 +42,7 @@ loop-again c =
 returns-2 : tie.Need-returns-2 invariant-loop decreases-loop
 returns-2 c =
     let l = c.before.loop in
-    zero-answers l.apart (same-all _ _ l.i l.apart l.invariant (omega arith))
+    zero_answers l.apart (same_all _ _ l.i l.apart l.invariant (omega arith))
 
 pub same_spec : {M : Type 1} → statement M
 same_spec =

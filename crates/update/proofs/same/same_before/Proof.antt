@@ -1,7 +1,7 @@
 -- `same_before` meets its contract: the first section reaches the offset, and the parts before it are compared.
 use native.Mathlib.Omega.{arith}
 use borrow.Author.Rules.{rules}
-use Rattle.update.proofs.ElsewhereLaws.{before-told}
+use Rattle.update.proofs.ElsewhereLaws.{before_told}
 use Rattle.update.proofs.same.same_before.Statement.{statement}
 use Rattle.update.proofs.same.same_before.Tie as tie
 
@@ -32,11 +32,11 @@ same-requires c κs = search rules
 returns-2 : tie.Need-returns-2
 returns-2 c =
     let start = c.before.before.before.before.before.before in
-    before-told start.args.s.now start.args.t.now start.args.at c.same.result (omega arith)
+    before_told start.args.s.now start.args.t.now start.args.at c.same.result (omega arith)
     c.same.ensures
 
-pub same-before-spec : {M : Type 1} → statement M
-same-before-spec =
+pub same_before_spec : {M : Type 1} → statement M
+same_before_spec =
     tie.close
     (tie.spec
     returns
