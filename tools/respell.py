@@ -15,7 +15,7 @@ import subprocess
 import sys
 
 TOKEN = re.compile(r"[^\s(){}\[\],;.:=@\"]+")
-DECLARED = re.compile(r"^\s*(?:(?:pub|abbrev|unfoldable|opaque|data|record)\s+)*([^\s(){}\[\],;.:=@\"]+)\s+:\s")
+DECLARED = re.compile(r"^\s*(?:(?:pub|abbrev|unfoldable|opaque|data|record)\s+)*([^\s(){}\[\],;.:=@\"]+)\s+:(?:\s|$)")
 HEAD = re.compile(r"^\s*(?:(?:pub|abbrev)\s+)*(?:data|record)\s+([^\s(){}\[\],;.:=@\"]+)")
 IMPORT = re.compile(r"^\s*(?:pub )?(?:ghost )?use ([^\s{]+?)(?:\.\{(.*)\})?(?: as \S+)?;?$")
 GENERATED = re.compile(r"\.proofs\.(?:\+?[a-z_]+\.)*(Tie|Goals|Given|Lts|Reads|Statement|Met|Code)\b")
@@ -43,7 +43,7 @@ def snake(name):
     """The name in snake case. A dash stays behind a type, whose name keeps its capitals."""
     if re.fullmatch(r"[A-Z][A-Z0-9_]*", name):
         return name
-    parts = name.split("-")
+    parts = name.replace("getD", "get_or").split("-")
     out = parts[0] if parts[0][:1].isupper() else camel(parts[0])
     for before, part in zip(parts, parts[1:]):
         out += ("-" if before[:1].isupper() else "_") + (part if part[:1].isupper() else camel(part))

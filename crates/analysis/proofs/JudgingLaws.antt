@@ -10,11 +10,11 @@ use lib.ListN.{length-map}
 use lib.Count.{ones, ones_step, ones-le, count_trailing_zeros, under}
 use lib.Pow.{shr-shr}
 use Rattle.table.specs.WellFormed.{In, NoDup}
-use Rattle.table.specs.Laws.Lists.{In-map, NoDup-map}
+use Rattle.table.proofs.Laws.Lists.{In-map, NoDup-map}
 use Rattle.rules.specs.Share.{Count}
-use Rattle.rules.specs.Laws.Share.{count_map}
+use Rattle.rules.proofs.Laws.Share.{count_map}
 use Rattle.grid.specs.Rows.{Has, Bits}
-use Rattle.grid.specs.Laws.Masks.{has_zero}
+use Rattle.grid.proofs.Laws.Masks.{has_zero}
 use Rattle.analysis.specs.Laws.Judging.{Lowest}
 
 -- the bits of a number above its lowest are those of its half

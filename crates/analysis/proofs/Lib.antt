@@ -1,3 +1,4 @@
+pub mod Laws
 mod JudgingLaws
 mod ModelLaws
 mod VerdictLaws

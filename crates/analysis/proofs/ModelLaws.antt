@@ -11,7 +11,7 @@ use Rattle.rows.specs.Bytes.{RingByte, RowsOf}
 use Rattle.rows.specs.Laws.Fixpoint.{Settled, settled}
 use Rattle.table.specs.Constants.{row_bytes, row_names}
 use Rattle.analysis.specs.Answer.{Flag, Cell, Models}
-use Rattle.analysis.specs.Laws.Bytes.{bit_flag, cell_at}
+use Rattle.analysis.proofs.Laws.Bytes.{bit_flag, cell_at}
 use Rattle.settle.specs.Settle.{Named, Fresh, AllFresh}
 
 module _ (P : Program) (before model names : List ℕ) (part : AllFresh P before model names) where

@@ -8,8 +8,8 @@ use Rattle.table.specs.Constants.{most_routines, most_bytes}
 use Rattle.table.specs.Program.{program_items}
 use Rattle.table.specs.Check.{Outcome, refused, accepted, check_table}
 use Rattle.table.specs.Answer.{checked_of}
-use Rattle.table.specs.Laws.Accepts.{Bytes, accepted_few}
-use Rattle.table.specs.Laws.Refusals.{refusals}
+use Rattle.table.proofs.Laws.Accepts.{Bytes, accepted_few}
+use Rattle.table.proofs.Laws.Refusals.{refusals}
 use Rattle.table.specs.declared.Checked.TheVariants.{Accepted, Refused}
 
 -- what an accepted table's numbers are at most

@@ -10,14 +10,14 @@ use lib.Bits.{bit_or, bit_xor, or_lt, xor_lt}
 use lib.Count.{ones}
 use Rattle.table.specs.Program.{Program}
 use Rattle.table.specs.WellFormed.{WellFormed}
-use Rattle.table.specs.Laws.Formed.{well_formed}
+use Rattle.table.proofs.Laws.Formed.{well_formed}
 use Rattle.rules.specs.Verdict.{Reached, first}
 use Rattle.rules.specs.Share.{Count, ReachedRingless}
-use Rattle.rules.specs.Laws.Verdict.{body_calls, reached_within}
-use Rattle.rules.specs.Laws.Share.{count_some}
-use Rattle.run.specs.Laws.Safety.{clear_is_safe}
+use Rattle.rules.proofs.Laws.Verdict.{body_calls, reached_within}
+use Rattle.rules.proofs.Laws.Share.{count_some}
+use Rattle.run.proofs.Laws.Safety.{clear_is_safe}
 use Rattle.grid.specs.Rows.{Has, Bits}
-use Rattle.grid.specs.Laws.Masks.{has_zero, bits_map, bits_beyond}
+use Rattle.grid.proofs.Laws.Masks.{has_zero, bits_map, bits_beyond}
 use Rattle.rows.specs.Bytes.{RingByte}
 use Rattle.analysis.specs.Answer.{Says, Shares, Short}
 use Rattle.analysis.specs.declared.Share.{Share}
@@ -30,7 +30,7 @@ use Rattle.settle.specs.Settle.{AllFresh}
 use Rattle.settle.specs.Bodies.{Known}
 use Rattle.byrounds.specs.Round.{CanBegin, RoundsDone}
 use Rattle.rounds.specs.Rounds.{Rounds}
-use Rattle.rounds.specs.Laws.Bound.{rounds_le}
+use Rattle.rounds.proofs.Laws.Bound.{rounds_le}
 use Rattle.analysis.specs.Laws.Judges.{Finished, Pronounces}
 use Rattle.analysis.specs.Laws.Judges.{CanJudgeKnown, JudgesKnown}
 use Rattle.analysis.proofs.ModelLaws.{are_models, ring_told, no_ring, ring_at}

@@ -1,4 +1,6 @@
 // Bytes, appended to a text in a lent buffer. What has no room there is left out; the place counts it all the same.
+#![tactic(auto)]
+
 ghost use Rattle.std.specs.Prelude.{[], ◌∷◌, ◌+◌, ◌<◌, length};
 ghost use Rattle.append.specs.Appends.{Appends};
 

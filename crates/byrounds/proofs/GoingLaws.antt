@@ -11,18 +11,18 @@ use lib.Dec.{T, eqb, eqb→eq}
 use lib.ListN.{length, get_or}
 use Rattle.table.specs.Constants.{row_bytes}
 use Rattle.table.specs.Program.{Program, body}
-use Rattle.table.specs.Laws.Sections.{routines, few}
+use Rattle.table.proofs.Laws.Sections.{routines, few}
 use Rattle.rules.specs.Label.{several, cut}
 use Rattle.rules.specs.Model.{Model}
 use Rattle.rules.specs.Verdict.{Calls}
-use Rattle.rules.specs.Laws.Least.{row-mono}
-use Rattle.rules.specs.Laws.Tests.{halves}
+use Rattle.rules.proofs.Laws.Least.{row_mono}
+use Rattle.rules.proofs.Laws.Tests.{halves}
 use Rattle.grid.specs.Rows.{Has}
 use Rattle.rows.specs.Model.{Cleared}
 use Rattle.rows.specs.Laws.Cells.{no_label}
 use Rattle.rounds.specs.Rounds.{PairsIn, Changeless}
-use Rattle.rounds.specs.Laws.Steps.{in_model, all_same}
-use Rattle.rounds.specs.Laws.Bound.{changing_le}
+use Rattle.rounds.proofs.Laws.Steps.{in_model, all_same}
+use Rattle.rounds.proofs.Laws.Bound.{changing_le}
 use Rattle.settle.specs.Due.{All}
 use Rattle.settle.specs.Settle.{AllFresh}
 use Rattle.settle.specs.Bodies.{Linked}
@@ -75,7 +75,7 @@ module _ (P : Program) (i : ℕ) (still : Changeless P i) (before model names : 
     long = long;
     rest = rest;
     shaped = λ q h. (rows q h).row.shaped;
-    sound = λ q a b l w. row-mono P (PairsIn P i) (Model P) (in_model P i) q a b l (to_after P i model cells q a b l w);
+    sound = λ q a b l w. row_mono P (PairsIn P i) (Model P) (in_model P i) q a b l (to_after P i model cells q a b l w);
     ring_sound = λ q h e.
         let w = (rows q h).row.ring_to e in (w.0, in_model P (suc i) q w.0 w.0 several w.1);
     fresh = λ q h. record {

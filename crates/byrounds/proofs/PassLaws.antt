@@ -10,7 +10,7 @@ use lib.Seq.{get_or-set_same, get_or-set_other}
 use lib.Bits.{bit_or, or_lt}
 use lib.Pow.{pow_pos}
 use Rattle.grid.specs.Rows.{Has, Bits}
-use Rattle.grid.specs.Laws.Masks.{has_zero, has_left, has_right, has_or}
+use Rattle.grid.proofs.Laws.Masks.{has_zero, has_left, has_right, has_or}
 use Rattle.rows.specs.Laws.Cells.{apart}
 use Rattle.settle.specs.Due.{Highest, Below}
 use Rattle.settle.specs.Laws.Masks.{has_top}

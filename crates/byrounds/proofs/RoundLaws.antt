@@ -16,10 +16,10 @@ use Rattle.rules.specs.Verdict.{Calls}
 use Rattle.rows.specs.Bytes.{Labelled, RowsOf}
 use Rattle.rows.specs.Model.{Shaped, RowAdded, GridRow, HasRing, total, Moves}
 use Rattle.rows.specs.Laws.Cells as Cells
-use Rattle.rows.specs.Laws.Fixpoint.{calls-only}
+use Rattle.rows.specs.Laws.Fixpoint.{calls_only}
 use Rattle.rounds.specs.Rounds.{PairsIn, RowsAfter, RingAfter, Changeless}
-use Rattle.rounds.specs.Laws.LeastGiven.{Within, derived_mono}
-use Rattle.rounds.specs.Laws.Steps.{Steady, SameRow, adds, rows_add, rings_add, none_beyond, steady_same}
+use Rattle.rounds.proofs.Laws.LeastGiven.{Within, derived_mono}
+use Rattle.rounds.proofs.Laws.Steps.{Steady, SameRow, adds, rows_add, rings_add, none_beyond, steady_same}
 use Rattle.settle.specs.Settle.{WorkedOut, Improved}
 use Rattle.byrounds.specs.Round.{CellsAre, RowIs, NamedIn, At, SameCells}
 
@@ -129,7 +129,7 @@ same_cells_are P i rows q s c = record {
 pub steady_next : (P : Program) (i q : ℕ)
     → ((p : ℕ) → Calls (body P q) p → p < length P → SameCells P i p) → Steady P (suc i) q
 steady_next P i q f =
-    calls-only P (RowsAfter P (suc i)) (RowsAfter P i) q (λ p a b l c w. go p a b l c w (dec_lt p (length P)))
+    calls_only P (RowsAfter P (suc i)) (RowsAfter P i) q (λ p a b l c w. go p a b l c w (dec_lt p (length P)))
   where
     go : (p a b : ℕ) (l : Label) → Calls (body P q) p → RowsAfter P (suc i) p a b l → Dec (p < length P)
         → RowsAfter P i p a b l

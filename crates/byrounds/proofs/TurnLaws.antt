@@ -10,12 +10,12 @@ use lib.ListN.{length, get_or, set, length-set}
 use lib.Seq.{get_or-set_same, get_or-set_other}
 use lib.Pow.{pow_pos}
 use Rattle.table.specs.Program.{Program}
-use Rattle.table.specs.Laws.Sections.{routines, few}
+use Rattle.table.proofs.Laws.Sections.{routines, few}
 use Rattle.grid.specs.Rows.{Has, Bits}
-use Rattle.grid.specs.Laws.Masks.{has_zero}
+use Rattle.grid.proofs.Laws.Masks.{has_zero}
 use Rattle.rows.specs.Model.{ShapedRow, Shaped}
 use Rattle.rounds.specs.Rounds.{Changeless}
-use Rattle.rounds.specs.Laws.Steps.{SameRow, steady_same}
+use Rattle.rounds.proofs.Laws.Steps.{SameRow, steady_same}
 use Rattle.settle.specs.Due.{Highest}
 use Rattle.settle.specs.Settle.{Improved}
 use Rattle.settle.specs.Bodies.{BodyOf, RowReady, Improves}

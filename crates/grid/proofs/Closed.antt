@@ -9,23 +9,23 @@ use Rattle.rules.specs.Label.{Label, own, forked, unknown, several, combine}
 use Rattle.rules.specs.Number.{number, label_of, labels}
 use Rattle.rules.specs.Model.{Kept}
 use Rattle.rules.specs.Derived.{Closed, given, follows}
-use Rattle.rules.specs.Laws.Number.{label_of_number, number_lt}
+use Rattle.rules.proofs.Laws.Number.{label_of_number, number_lt}
 use Rattle.grid.specs.Rows.{Has, Edge, SomeRow, Walk, Same, Bits}
 use Rattle.grid.specs.Grid.{cell, Pair, Small, AllKept, Closure}
 use Rattle.grid.specs.Planes.{Labelled, RowLabels, Sole, PlanesOf, Within, Plane, MixOf, SeveralOf}
 use Rattle.grid.specs.Planes.{Grown, InPlane, InWalks, InPlanes, Follows}
 use Rattle.grid.specs.Laws.Walks.{Of, Any, Mix, Mixed, Says, walk_back, star_back, first, says, said, walked}
-use Rattle.grid.specs.Laws.Masks.{has_zero}
-use Rattle.grid.specs.Laws.Labels.{in_has, in_range, keeps, not_several}
+use Rattle.grid.proofs.Laws.Masks.{has_zero}
+use Rattle.grid.proofs.Laws.Labels.{in_has, in_range, keeps, not_several}
 use Rattle.grid.proofs.Relations.{same_walk}
-use Rattle.grid.proofs.Growing.{grown_none, grown_then, grown-map}
+use Rattle.grid.proofs.Growing.{grown_none, grown_then, grown_map}
 
 -- each pair that follows from kept pairs is kept
-closed-kept :
+closed_kept :
     (G : ℕ → ℕ → Label → Type 0) → ((a b : ℕ) (l : Label) → G a b l → Kept a b l)
     → {a b : ℕ} {l : Label} → Closed G a b l → Kept a b l
-closed-kept G k (given {a = a} {b = b} {l = l} w) = k a b l w
-closed-kept G k (follows p q e w) = w
+closed_kept G k (given {a = a} {b = b} {l = l} w) = k a b l w
+closed_kept G k (follows p q e w) = w
 
 -- a pair of the grid is a pair of its label's plane, backwards
 pair_edge : (g : List (List ℕ)) (l : Label) (a b : ℕ) → Pair g a b l → Labelled g (number l) b a
@@ -70,7 +70,7 @@ module _ (g r : List (List ℕ)) (grown : Grown g (Follows g) r) (kept : AllKept
   pub closure : Small r → Closure g r
   closure small = record {
     small = small;
-    kept = λ a b l w. closed-kept (Pair g) kept (only a b l w);
+    kept = λ a b l w. closed_kept (Pair g) kept (only a b l w);
     only = only;
     all = λ a b l w. told l a b (says (Pair g) kept w);
   }
@@ -129,7 +129,7 @@ module _ (g p : List (List ℕ)) (planes : PlanesOf g p) where
       (n r : List (List ℕ)) (s : List ℕ) → Same (Edge s) (SeveralOf p) → Grown g (InPlanes (number unknown) p) n
       → Grown n (InPlane s (number several)) r → Grown g (Follows g) r
   all_grown n r s mixes named last =
-      grown-map
+      grown_map
       (λ a b k. ⊎_elim
       (λ w. let h = w.0 in inr (inl (h, (w.1.0, (same_walk _ _ (planes k (omega arith))).to b a w.1.1))))
       (λ w. inr (inr (w.0, mixed_to b a (mixes.to b a w.1)))))
@@ -166,15 +166,15 @@ module _ (g : List (List ℕ)) (u : List ℕ) (c l : ℕ) (rows : Same (Edge u) 
 
   pub one_grown : (r : List (List ℕ)) → Grown g (InWalks (Labelled g l) l) r → Grown g (Follows g) r
   one_grown r last =
-      grown-map
+      grown_map
       (λ a b k w. inr (inl (rw w.0 (named, w.1))))
       (λ a b k w. inr (only_walks a b k w))
       last
 
 -- nothing follows where there is no pair
-pub none-grown :
+pub none_grown :
     (g : List (List ℕ)) (u : List ℕ) → Same (Edge u) (RowLabels g) → Bits 0 (SomeRow u) → Grown g (Follows g) g
-none-grown g u rows bits =
+none_grown g u rows bits =
     one_grown g u 0 0 rows bits (omega arith) (λ h j e. absurd (has_zero j e)) g
     (grown_none
     (λ a b k w. let f = first w.1.1 in has_zero 0 (bits.from 0 (f.0, rows.from f.0 0 (b, f.1)))))

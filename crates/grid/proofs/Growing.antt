@@ -11,7 +11,7 @@ use Rattle.rules.specs.Number.{labels}
 use Rattle.grid.specs.Rows.{Has, Rel, Edge, Or, Less, Apart, Walk, Same}
 use Rattle.grid.specs.Grid.{cell, Small}
 use Rattle.grid.specs.Planes.{PlaneIn, Grown, InPlane, InWalks, InPlanes}
-use Rattle.grid.specs.Laws.Masks.{has_below, below_bits}
+use Rattle.grid.proofs.Laws.Masks.{has_below, below_bits}
 use Rattle.grid.specs.Laws.Walks.{first}
 use Rattle.grid.proofs.Relations.{same_walk, below_split}
 
@@ -43,10 +43,10 @@ grown_then f h = record {
 }
 
 -- F and H are the same but for what the grid has
-pub grown-map :
+pub grown_map :
     {g r : List (List ℕ)} {F H : ℕ → Rel} → ((a b k : ℕ) → F a b k → Has (cell g a b) k ⊎ H a b k)
     → ((a b k : ℕ) → H a b k → Has (cell g a b) k ⊎ F a b k) → Grown g F r → Grown g H r
-grown-map f h s = record {
+grown_map f h s = record {
   row = λ a. record {
     to = λ b k p. ⊎_elim (λ q. inl q) (λ q. f a b k q) ((s.row a).to b k p);
     from = λ b k p. (s.row a).from b k (⊎_elim (λ q. inl q) (λ q. h a b k q) p);
@@ -54,12 +54,12 @@ grown-map f h s = record {
 }
 
 -- the walks of r that r has not are all walks of r, where r is of the grid
-pub walks-grown :
+pub walks_grown :
     (g t : List (List ℕ)) (r w v d : List ℕ) (l : ℕ) → PlaneIn g r l → Same (Edge w) (Walk (Edge r))
     → Same (Edge v) (Apart (Edge w)) → Same (Edge d) (Less (Edge v) (Edge r)) → Grown g (InPlane d l) t
     → Grown g (InWalks (Edge r) l) t
-walks-grown g t r w v d l inside walks apart less grown =
-    grown-map
+walks_grown g t r w v d l inside walks apart less grown =
+    grown_map
     (λ a b k p.
     let x = apart.to b a (less.to b a p.1).0 in inr (p.0, (x.0, walks.to b a x.1)))
     (λ a b k p. back a b k p (ℕ_discrete (get_or r b 0 / 2 ^ a % 2) 1))
@@ -90,25 +90,25 @@ pub walks_same :
     {g t : List (List ℕ)} (R S : Rel) (l : ℕ) → Same R S → Grown g (InWalks R l) t → Grown g (InWalks S l) t
 walks_same R S l s =
     let w = same_walk R S s in
-    grown-map
+    grown_map
     (λ a b k p. inr (p.0, (p.1.0, w.to b a p.1.1)))
     (λ a b k p. inr (p.0, (p.1.0, w.from b a p.1.1)))
 
 -- the planes below n and then plane n; or plane n has no walk
 module _ (g : List (List ℕ)) (p : List (List ℕ)) (n : ℕ) where
-  pub planes-more :
+  pub planes_more :
       (t r : List (List ℕ)) → Grown g (InPlanes n p) t → Grown t (InWalks (Edge (get_or p n [])) n) r
       → Grown g (InPlanes (n + 1) p) r
-  planes-more t r s u =
-      grown-map
+  planes_more t r s u =
+      grown_map
       (λ a b k. ⊎_elim
       (λ q. let z = q.0 in inr (omega arith, q.1))
       (λ q. inr (let z = q.0 in omega arith, rw q.0 q.1)))
       (λ a b k q. inr (⊎_elim (λ h. inl (h, q.1)) (λ e. inr (e, rw e at q.1)) (below_split n k q.0)))
       (grown_then s u)
 
-  pub planes-skip :
+  pub planes_skip :
       (t : List (List ℕ)) → Grown g (InPlanes n p) t → ((b a : ℕ) → Edge (get_or p n []) b a → ⊥)
       → Grown g (InPlanes (n + 1) p) t
-  planes-skip t s none =
-      planes-more t t s (grown_none (λ a b k q. let f = first q.1.1 in none b f.0 f.1))
+  planes_skip t s none =
+      planes_more t t s (grown_none (λ a b k q. let f = first q.1.1 in none b f.0 f.1))

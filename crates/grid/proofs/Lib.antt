@@ -1,3 +1,4 @@
+pub mod Laws
 pub mod Relations
 pub mod Pivots
 pub mod Shapes

@@ -22,10 +22,10 @@ module _ {A : Type 0} (d : A) (size : ℕ) (Done : ℕ → A → Type 0) (r₀ :
   pub passed_none : length r₀ ≡ size → Passed d size Done r₀ r₀ 0
   passed_none l = record { within = omega arith; long = l; done = λ i h. absurd (omega arith); rest = λ i h. refl }
 
-  pub passed-more :
+  pub passed_more :
       (r : List A) (n : ℕ) (t : A) → Passed d size Done r₀ r n → n < size → Done n t
       → Passed d size Done r₀ (set r n t) (n + 1)
-  passed-more r n t p h q = record {
+  passed_more r n t p h q = record {
     within = omega arith;
     long = set_long A r n size t p.long;
     done = λ i k. here i k (ℕ_discrete i n);
@@ -36,10 +36,10 @@ module _ {A : Type 0} (d : A) (size : ℕ) (Done : ℕ → A → Type 0) (r₀ :
       here i k (yes e) = rw (e, get_or-set_same r n t d (let z = p.long in omega arith)) q
       here i k (no e) = rw (get_or-set_other r n i t d e) (p.done i (omega arith))
 
-  pub passed-skip :
+  pub passed_skip :
       (r : List A) (n : ℕ) → Passed d size Done r₀ r n → n < size → Done n (get_or r₀ n d)
       → Passed d size Done r₀ r (n + 1)
-  passed-skip r n p h q = record {
+  passed_skip r n p h q = record {
     within = omega arith;
     long = p.long;
     done = λ i k. here i k (ℕ_discrete i n);
@@ -64,10 +64,10 @@ rows_all S r₀ r n p h b = record {
 }
 
 -- all sixteen rows of a grid passed
-pub grid-all :
+pub grid_all :
     (S : ℕ → Rel) (r₀ r : List (List ℕ)) (n : ℕ) → Passed [] 16 (λ a row. Same (Edge row) (S a)) r₀ r n → 16 ≤ n
     → ((a b k : ℕ) → S a b k → a < 16) → (a : ℕ) → Same (Edge (get_or r a [])) (S a)
-grid-all S r₀ r n p h f a = record {
+grid_all S r₀ r n p h f a = record {
   to = λ b k e. (p.done a (let z = cell_row r 16 a b k p.long e in omega arith)).to b k e;
   from = λ b k e. (p.done a (let z = f a b k e in omega arith)).from b k e;
 }

@@ -13,9 +13,9 @@ use Rattle.rules.specs.Number.{number, label_of, labels}
 use Rattle.rules.specs.Model.{Kept}
 use Rattle.grid.specs.Rows.{Has, Bits}
 use Rattle.grid.specs.Grid.{cell, In, Pair, Small, KeptIn, Empty, Added}
-use Rattle.grid.specs.Laws.Masks.{has_below, below_bits, bits_self, bits_or}
+use Rattle.grid.proofs.Laws.Masks.{has_below, below_bits, bits_self, bits_or}
 use Rattle.grid.proofs.Shapes.{zero_cell, zero_pair}
-use Rattle.grid.specs.Laws.Labels.{in_number, in_has}
+use Rattle.grid.proofs.Laws.Labels.{in_number, in_has}
 
 -- row a with the mask k added at column b, and the grid with that row
 abbrev put_row : List (List ℕ) → ℕ → ℕ → ℕ → List ℕ

@@ -70,9 +70,9 @@ module _ (R : Rel) (F : ℕ → Rel) where
         p);
   }
 
-  pub some-skip :
+  pub some_skip :
       (S : Rel) (n : ℕ) → Same S (Or R (Some n F)) → ((i j : ℕ) → F n i j → ⊥) → Same S (Or R (Some (n + 1) F))
-  some-skip S n s h = some_more S S n s (record {
+  some_skip S n s h = some_more S S n s (record {
     to = λ i j p. inl p;
     from = λ i j p. ⊎_elim (λ q. q) (λ q. absurd (h i j q)) p;
   })

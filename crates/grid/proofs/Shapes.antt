@@ -13,7 +13,7 @@ use denote.Plain.{UInt}
 use borrow.Author.Rules.{elem_Fits}
 use Rattle.grid.specs.Rows.{Has, Edge}
 use Rattle.grid.specs.Grid.{cell}
-use Rattle.grid.specs.Laws.Masks.{has_zero, has_below}
+use Rattle.grid.proofs.Laws.Masks.{has_zero, has_below}
 
 -- a row with a bit is one of the rows
 pub edge_row : (r : List ℕ) (n i j : ℕ) → length r ≡ n → Edge r i j → i < n

@@ -1,4 +1,6 @@
 // Grids of labelled pairs: recording, closing, and the lowest ring name.
+#![tactic(auto)]
+
 ghost use Rattle.std.specs.Prelude.{◌^◌, ◌<◌};
 ghost use Rattle.table.specs.Constants.{most_names};
 ghost use Rattle.rules.specs.Number.{labels};

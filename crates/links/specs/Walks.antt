@@ -1,5 +1,6 @@
 -- The walk that links a body: place by place, and the paths that it takes.
-use Rattle.std.specs.Prelude.{◌≡◌, Bool, true, false, cond, not, List, ℕ, ◌+◌, ◌-◌, ◌<◌, ◌≤◌, ◌^◌, eqb, length, get_or, set, replicate}
+use Rattle.std.specs.Prelude.{◌≡◌, Bool, true, false, cond, not, List, ℕ, ◌+◌, ◌-◌, ◌<◌, ◌≤◌, ◌^◌, eqb}
+use Rattle.std.specs.Prelude.{length, get_or, set, replicate}
 use Rattle.table.specs.Constants.{END, NEW, LOCK, OTHER, CALL, MIRROR, code, most_open, most_bytes, most_params}
 use Rattle.links.specs.declared.Walk.{Walk}
 

@@ -1,8 +1,10 @@
 // What the steps need of the section, worked out once: where the bodies start, and what belongs to an item but does not
 // stand at it.
+#![tactic(auto)]
+
 ghost use Rattle.std.specs.Prelude.{◌≡◌, ◌<◌, ◌+◌, ◌^◌, length};
 ghost use Rattle.table.specs.Constants.{most_routines, most_bytes};
-ghost use Rattle.table.specs.Laws.Sections.{Held};
+ghost use Rattle.table.proofs.Laws.Sections.{Held};
 ghost use Rattle.links.specs.Holding.{Links};
 ghost use Rattle.links.specs.Walks.{binds?, past_at, slot_by, link_by, moved_by, walk_after, links_after, going, begun};
 ghost use Rattle.links.specs.Walks.{Passable, Levelled, Moves, CanLink, Walks, Linked, Bounded};
@@ -15,7 +17,7 @@ pub const LEVELS: usize = MOST_OPEN as usize + 1;
 
 // A place of a body: the offset of the next item, the innermost open level, the name that is made next, and for each
 // open level the offset of the item whose link is written when it is closed.
-#[derive(Drop)]
+#[derive(Clone, Copy)]
 pub struct Walk {
     pub at: usize,
     pub top: usize,

@@ -1,3 +1,4 @@
+pub mod Laws
 pub mod DecimalLaws
 pub mod LineLaws
 pub mod ListLaws

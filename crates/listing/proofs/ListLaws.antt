@@ -8,10 +8,10 @@ use lib.ListN.{length, get_or}
 use Rattle.table.specs.Program.{Program}
 use Rattle.table.specs.Constants.{row_bytes}
 use Rattle.table.specs.Check.{Outcome, refused, accepted, check_table}
-use Rattle.table.specs.Laws.Accepts.{Bytes, accepted_few}
-use Rattle.table.specs.Laws.Sound.{sound}
-use Rattle.table.specs.Laws.Formed.{well_formed}
-use Rattle.rules.specs.Laws.Share.{percent_few, whole_exact, reached_few}
+use Rattle.table.proofs.Laws.Accepts.{Bytes, accepted_few}
+use Rattle.table.proofs.Laws.Sound.{sound}
+use Rattle.table.proofs.Laws.Formed.{well_formed}
+use Rattle.rules.proofs.Laws.Share.{percent_few, whole_exact, reached_few}
 use Rattle.analysis.specs.Answer.{short_buffer, Shares, Analysed}
 use Rattle.analysis.specs.declared.Share.{Share}
 use Rattle.analysis.specs.declared.Verdict.{Verdict}
@@ -19,7 +19,7 @@ use Rattle.analysis.specs.declared.Answer.{Answer}
 use Rattle.analysis.specs.declared.Answer.TheVariants.{Judged, Refused}
 use Rattle.listing.specs.Text.{listing, Listed}
 use Rattle.append.specs.Appends.{Appends}
-use Rattle.listing.specs.Laws.Texts.{sets_over}
+use Rattle.listing.proofs.Laws.Texts.{sets_over}
 use Rattle.listing.specs.Laws.Digits.{FewDigits}
 
 -- the answers are of two kinds

@@ -10,13 +10,13 @@ use lib.ListN.{length, get_or, get_elem?, take, replicate, get_or-replicate, len
 use lib.Seq.{get_or-take, take-suc, take_all}
 use Rattle.table.specs.Constants.{END, most_bytes}
 use Rattle.table.specs.WellFormed.{In}
-use Rattle.table.specs.Laws.Lists.{getD-in}
+use Rattle.table.proofs.Laws.Lists.{get_or_in}
 use Rattle.table.specs.Program.{Program, params, body}
 use Rattle.canon.specs.Canonical.{met, all_met, called_by, found, order}
-use Rattle.canon.specs.Laws.Order.{found_step, found_reached, found_settled, found_few, order_enough, order_entry}
-use Rattle.canon.specs.Laws.Lists.{entry_in, get_d_entry}
-use Rattle.table.specs.Laws.Formed.{well_formed}
-use Rattle.rules.specs.Laws.Verdict.{reached_within}
+use Rattle.canon.proofs.Laws.Order.{found_step, found_reached, found_settled, found_few, order_enough, order_entry}
+use Rattle.canon.proofs.Laws.Lists.{entry_in, get_or_entry}
+use Rattle.table.proofs.Laws.Formed.{well_formed}
+use Rattle.rules.proofs.Laws.Verdict.{reached_within}
 use Rattle.order.specs.declared.Order.{Order}
 use Rattle.order.specs.Items.{items_of, flat, called_in, sizes, body_sizes}
 use Rattle.order.specs.Standing.{HoldsAt, HeldAt, end_of}
@@ -68,12 +68,12 @@ module _ (ks s starts : List ℕ) where
     entry : get_elem? (list_of o) i ≡ some here
     entry =
         let e = list_length o g.listed in
-        (getD-in (list_of o) i (omega arith)).1 ∙ ap some (get_or-take o.count o.routines i 0 lt)
+        (get_or_in (list_of o) i (omega arith)).1 ∙ ap some (get_or-take o.count o.routines i 0 lt)
 
     inside : In here (list_of o)
     inside =
         let e = list_length o g.listed in
-        subst (λ x. In x (list_of o)) (get_or-take o.count o.routines i 0 lt) (getD-in (list_of o) i (omega arith)).0
+        subst (λ x. In x (list_of o)) (get_or-take o.count o.routines i 0 lt) (get_or_in (list_of o) i (omega arith)).0
 
     below : (P : Program) → HoldsAt P ks s starts → here < length P
     below P h = reached_within P (well_formed P h.holds.limits) here
@@ -104,7 +104,7 @@ module _ (ks s starts : List ℕ) where
         let e = order_entry P i i here (omega arith)
         (subst (λ (l : List ℕ). get_elem? l i ≡ some here) (g.list P h) entry) in
         ap (λ n. take n (order P)) (add-one i) ∙ take-suc (order P) i 0 (entry_in (order P) i here e).1
-        ∙ ap (λ x. take i (order P) ++ (x ∷ [])) (get_d_entry (order P) i here 0 e)
+        ∙ ap (λ x. take i (order P) ++ (x ∷ [])) (get_or_entry (order P) i here 0 e)
 
     module _ (r at end : ℕ) (v : Order) (e : r ≡ here) (a : at ≡ get_or starts r 0) (b : end ≡ end_of s starts r)
         (m : AllMet ks s at end o v) where

@@ -10,11 +10,11 @@ use native.Mathlib.Omega.{arith}
 use lib.ListN.{length, get_or, get_elem?, set, take, length-set, length-append}
 use lib.Seq.{length-take-le, take-suc-set, get_or-set_same, get_or-set_other}
 use Rattle.table.specs.WellFormed.{In, NoDup}
-use Rattle.table.specs.Laws.Lists.{In-split}
+use Rattle.table.proofs.Laws.Lists.{In-split}
 use Rattle.canon.specs.Canonical.{met, position}
-use Rattle.canon.specs.Laws.Lists.{by-met, met_last, met_old, met_new, met_only, met_once, below_few, entry_left}
-use Rattle.canon.specs.Laws.Lists.{position_entry}
-use Rattle.canon.specs.Laws.Lists.{position_below, position_once}
+use Rattle.canon.proofs.Laws.Lists.{by_met, met_last, met_old, met_new, met_only, met_once, below_few, entry_left}
+use Rattle.canon.proofs.Laws.Lists.{position_entry}
+use Rattle.canon.proofs.Laws.Lists.{position_below, position_once}
 use Rattle.order.specs.declared.Order.{Order}
 use Rattle.order.specs.Ordering.{order_of, list_of, Listed, Met, Meets}
 
@@ -37,7 +37,7 @@ list_length o l = length-take-le o.count o.routines (let a = l.long in let b = l
 place_met : (o : Order) (r : ℕ) → Listed o → r < 64 → get_or o.places r 0 ≢ 64 → Met o o r
 place_met o r l lt n = record {
   listed = l;
-  list = by-met (λ (t : List ℕ). list_of o ≡ t) (list_of o) r (λ i. refl) (λ m. absurd (n (l.unplaced r lt m)));
+  list = by_met (λ (t : List ℕ). list_of o ≡ t) (list_of o) r (λ i. refl) (λ m. absurd (n (l.unplaced r lt m)));
   bytes = refl;
 }
 

@@ -18,8 +18,8 @@ use Rattle.rules.specs.Number.{number, label_of, labels}
 use Rattle.rules.specs.Model.{Kept, renamed}
 use Rattle.grid.specs.Rows.{Has, Bits}
 use Rattle.grid.specs.Grid.{In, Small, Added}
-use Rattle.grid.specs.Laws.Masks.{below_bits, bits_or, bits_one, bits_shl}
-use Rattle.grid.specs.Laws.Labels.{not_several, in_one, one_in}
+use Rattle.grid.proofs.Laws.Masks.{below_bits, bits_or, bits_one, bits_shl}
+use Rattle.grid.proofs.Laws.Labels.{not_several, in_one, one_in}
 use Rattle.pairs.specs.Walks.{held_by, root_of, in_nest, holder_under}
 use Rattle.pairs.specs.Gains.{HoldersGive, CallGives, Gains, names_at, roots_at, LowAt, MaskGives, Placed}
 use Rattle.rows.specs.Bytes.{Labelled, RowBits}

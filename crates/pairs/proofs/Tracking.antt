@@ -14,15 +14,15 @@ use Rattle.table.specs.Constants.{Op, END, NEW, LOCK, FORK, CHOICE, OTHER, CALL,
 use Rattle.table.specs.Program.{Code, end, new, lock, fork, choice, call, mirror, names, locals, forks}
 use Rattle.table.specs.WellFormed.{In}
 use Rattle.table.specs.Encoding.{Numbered}
-use Rattle.table.specs.Laws.Lists.{names_low}
+use Rattle.table.proofs.Laws.Lists.{names_low}
 use Rattle.rules.specs.Label.{forked}
 use Rattle.rules.specs.Model.{Place, at_head, naming, nested, under_lock, under_fork}
 use Rattle.rules.specs.Number.{label_of}
-use Rattle.rules.specs.Laws.Number.{label_of_number}
-use Rattle.rules.specs.Laws.Nest.{by-nest, by-bind}
+use Rattle.rules.proofs.Laws.Number.{label_of_number}
+use Rattle.rules.proofs.Laws.Nest.{by_nest, by_bind}
 use Rattle.grid.specs.Rows.{Has, Bits}
-use Rattle.grid.specs.Laws.Masks.{bits_zero, bits_or, bits_one, bits_map}
-use Rattle.table.specs.Laws.Fine.{Uses, Fine}
+use Rattle.grid.proofs.Laws.Masks.{bits_zero, bits_or, bits_one, bits_map}
+use Rattle.table.proofs.Laws.Fine.{Uses, Fine}
 use Rattle.pairs.specs.Walks.{Walk, held_by, byte_of, arg_of, holder_of, thread_of, nest_of, in_nest, with_root, root_of}
 use Rattle.pairs.specs.Walks.{SelvesTo, Selves, holder_under, start_walk, moved_walk, entered_walk, local_walk}
 use Rattle.pairs.specs.Walks.{next_walk, NamesFit, Ready}
@@ -95,11 +95,11 @@ module _ (k : ℕ) where
       scope = x ∷ p.scope;
       uses = uses;
       low = λ y i. ⊎_elim (λ q. omega arith) (λ q. let h = p.low y q in omega arith) i;
-      roots = λ y i. by-bind (λ a b. root_of (set rs (n + 1) v) y ≡ a) x z z π.roots π.roots y
+      roots = λ y i. by_bind (λ a b. root_of (set rs (n + 1) v) y ≡ a) x z z π.roots π.roots y
           (λ q. let h : y ≡ n + 1 = q ∙ e in rw h (get_or-set_same rs (n + 1) v 0 l ∙ f))
           (λ ne. ⊎_elim (λ q. absurd (ne q))
           (λ q. get_or-set_other rs (n + 1) y v 0 (λ h. let b = p.low y q in omega arith) ∙ p.roots y q) i);
-      low_roots = λ y i. by-bind (λ a b. a ≤ n + 1) x z z π.roots π.roots y (λ q. low)
+      low_roots = λ y i. by_bind (λ a b. a ≤ n + 1) x z z π.roots π.roots y (λ q. low)
           (λ ne. ⊎_elim (λ q. absurd (ne q)) (λ q. let h = p.low_roots y q in omega arith) i);
     }
 
@@ -117,7 +117,7 @@ module _ (k : ℕ) where
 
 -- inside a LOCK the roots are those outside
 lock_roots : (z : ℕ) (π : Place) → (under_lock z π).roots ≡ π.roots
-lock_roots z π = by-nest (λ v. v.roots ≡ π.roots) z π (λ i. refl) (λ n. refl)
+lock_roots z π = by_nest (λ v. v.roots ≡ π.roots) z π (λ i. refl) (λ n. refl)
 
 -- what the test of a nest tells
 pub in_nest_lem : (m z : ℕ) → in_nest m z ≡ true → Has m z
@@ -137,7 +137,7 @@ module _ {h t m : ℕ} {π : Place} (k : Shows h t m π) (z : ℕ) (low : z < 16
       (bits_or k.nest (bits_one z low))
 
   shows_lock : Shows (holder_under m h z) t (with_root m z) (under_lock z π)
-  shows_lock = by-nest (λ v. Shows (holder_under m h z) t (with_root m z) v) z π again first
+  shows_lock = by_nest (λ v. Shows (holder_under m h z) t (with_root m z) v) z π again first
     where
       again : In z π.nest → Shows (holder_under m h z) t (with_root m z) π
       again i = record {

@@ -3,7 +3,7 @@ ghost use Rattle.std.specs.Prelude.{◌≡◌, ◌⊎◌, ℕ, ◌*◌, ◌<◌,
 ghost use Rattle.table.specs.Constants.{most_routines, row_bytes};
 ghost use Rattle.grid.specs.Rows.{Has, Bits};
 ghost use Rattle.grid.specs.Grid.{Small};
-ghost use Rattle.table.specs.Laws.Fine.{IsBody};
+ghost use Rattle.table.proofs.Laws.Fine.{IsBody};
 ghost use Rattle.pairs.specs.Parts.{Scans, Records};
 
 mod calls;

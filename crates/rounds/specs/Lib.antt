@@ -5,4 +5,3 @@ pub mod Rounds
 pub mod Chain
 pub mod Given
 pub mod OneBody
-pub mod Laws

@@ -1,1 +1,2 @@
 // Rows worked out in rounds: definitions and theorems alone, no code.
+#![tactic(auto)]

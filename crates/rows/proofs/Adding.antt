@@ -15,7 +15,7 @@ use Rattle.grid.specs.Grid.{Pair, LowestRing}
 use Rattle.rows.specs.Added.{CellBit, AtByte, AtCell, AtName, AtRing, Below, Added}
 use Rattle.rows.specs.Laws.Totals.{total_set, moves_or}
 use Rattle.rows.proofs.Masks.{no_bits}
-use Rattle.grid.specs.Laws.Masks.{or_le, has_left, has_right, has_or, has_zero, has_below}
+use Rattle.grid.proofs.Laws.Masks.{or_le, has_left, has_right, has_or, has_zero, has_below}
 
 pub added_none : (W : Rel) (l : List ℕ) → ((i j : ℕ) → W i j → ⊥) → Added W l l false
 added_none W l never = record {
@@ -45,10 +45,10 @@ added_then W U e m x c d p q = record {
     from i j (inr (inr v)) = (q.bits i).from j (inr v)
 
 -- the same bits, in other words
-pub added-map :
+pub added_map :
     (W U : Rel) (e x : List ℕ) (c : Bool) → ((i j : ℕ) → W i j → U i j) → ((i j : ℕ) → U i j → W i j)
     → Added W e x c → Added U e x c
-added-map W U e x c f g p = record {
+added_map W U e x c f g p = record {
   long = p.long;
   bits = λ i. record {
     to = λ j h. ⊎_elim (λ o. inl o) (λ w. inr (f i j w)) ((p.bits i).to j h);
@@ -63,7 +63,7 @@ pub added_more :
     (F : ℕ → Rel) (n : ℕ) (e m x : List ℕ) (c d : Bool) → Added (Below F n) e m c → Added (F n) m x d
     → Added (Below F (n + 1)) e x (c || d)
 added_more F n e m x c d p q =
-    added-map (λ i j. Below F n i j ⊎ F n i j) (Below F (n + 1)) e x (c || d) join split
+    added_map (λ i j. Below F n i j ⊎ F n i j) (Below F (n + 1)) e x (c || d) join split
     (added_then (Below F n) (F n) e m x c d p q)
   where
     join : (i j : ℕ) → Below F n i j ⊎ F n i j → Below F (n + 1) i j
@@ -123,11 +123,11 @@ module _ (l : List ℕ) (i v : ℕ) where
     }
 
 -- a byte that has the bits of a mask's labels, for two different names
-pub cell-of-byte :
+pub cell_of_byte :
     (i a b m v : ℕ) (e x : List ℕ) (c : Bool) → a ≢ b → Bits v (CellBit m) → Added (AtByte i v) e x c
     → Added (AtCell i a b m) e x c
-cell-of-byte i a b m v e x c ne bits p =
-    added-map (AtByte i v) (AtCell i a b m) e x c (λ p j w. (w.0, ne, bits.to j w.1))
+cell_of_byte i a b m v e x c ne bits p =
+    added_map (AtByte i v) (AtCell i a b m) e x c (λ p j w. (w.0, ne, bits.to j w.1))
     (λ p j w. (w.0, bits.from j w.2)) p
 
 -- the mask 0 has no label
@@ -139,7 +139,7 @@ same_name i a b m l e = added_none (AtCell i a b m) l (λ p j w. w.1 e)
 
 -- a ring name below 16 sets the bit, and 16 does not
 pub name_of_byte : (i y : ℕ) (e x : List ℕ) (c : Bool) → y < 16 → Added (AtByte i 1) e x c → Added (AtName i y) e x c
-name_of_byte i y e x c l p = added-map (AtByte i 1) (AtName i y) e x c to (λ q j w. (w.0, rw w.1)) p
+name_of_byte i y e x c l p = added_map (AtByte i 1) (AtName i y) e x c to (λ q j w. (w.0, rw w.1)) p
   where
     to : (q j : ℕ) → AtByte i 1 q j → AtName i y q j
     to q j w = let z : j < 1 = has_below 1 1 j (omega arith) w.1 in (w.0, omega arith, l)
@@ -148,10 +148,10 @@ pub no_name : (i y : ℕ) (l : List ℕ) → y ≡ 16 → Added (AtName i y) l l
 no_name i y l e = added_none (AtName i y) l (λ p j w. let b : y < 16 = w.2 in omega arith)
 
 -- the lowest ring name of a grid of sixteen rows is below 16 where it has a ring
-pub ring-of-name :
+pub ring_of_name :
     (i y : ℕ) (g : List (List ℕ)) (e x : List ℕ) (c : Bool) → length g ≡ 16 → LowestRing g y → Added (AtName i y) e x c
     → Added (AtRing i g) e x c
-ring-of-name i y g e x c long ring p = added-map (AtName i y) (AtRing i g) e x c to from p
+ring_of_name i y g e x c long ring p = added_map (AtName i y) (AtRing i g) e x c to from p
   where
     to : (q j : ℕ) → AtName i y q j → AtRing i g q j
     to q j w = (w.0, w.1, (y, ring.ring w.2))

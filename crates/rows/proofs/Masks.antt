@@ -9,8 +9,8 @@ use lib.Pow.{pow_pos, shr-shr, mod-pow-add}
 use Rattle.table.specs.Constants.{most_forks}
 use Rattle.rules.specs.Label.{Label, own, forked, unknown, several, cut}
 use Rattle.rules.specs.Number.{number, label_of, labels}
-use Rattle.rules.specs.Laws.Number.{LabelCase, is_own, is_fork, is_unknown, is_several, label_case}
-use Rattle.grid.specs.Laws.Masks.{has_below, below_bits}
+use Rattle.rules.proofs.Laws.Number.{LabelCase, is_own, is_fork, is_unknown, is_several, label_case}
+use Rattle.grid.proofs.Laws.Masks.{has_below, below_bits}
 use Rattle.grid.specs.Rows.{Has, Bits}
 use Rattle.rows.specs.Bytes.{Labelled}
 use Rattle.rows.specs.Added.{bit_of, CellBit}

@@ -14,8 +14,8 @@ use Rattle.rows.specs.Bytes.{RowBits, RingByte}
 use Rattle.rows.specs.Model.{ShapedRow, GridRow, HasRing, Moves, RowAdded}
 use Rattle.rows.specs.Added.{bit_of, AtName, AtRing, InGrid, Added}
 use Rattle.rows.proofs.Masks.{bit_lt, cut_bit, labelled_has, has_labelled}
-use Rattle.grid.specs.Laws.Masks.{has_below, below_bits}
-use Rattle.rows.proofs.Adding.{added_then, ring-of-name}
+use Rattle.grid.proofs.Laws.Masks.{has_below, below_bits}
+use Rattle.rows.proofs.Adding.{added_then, ring_of_name}
 
 -- a byte of a row's cells is in one cell alone
 one_cell :
@@ -168,7 +168,7 @@ module _ (e m x : List ℕ) (r k : ℕ) (g : List (List ℕ)) (c d : Bool) (y : 
       (λ z i j h. last_alone q i j h ∙ ap (λ (v : List ℕ). get_or v (65 * i + j) 0) (told_same z p.told))
     where
       q : Added (AtRing (65 * r + 64) g) m x d
-      q = ring-of-name (65 * r + 64) y g m x d long name n
+      q = ring_of_name (65 * r + 64) y g m x d long name n
 
       told_same : c ≡ false → Moves c e m → m ≡ e
       told_same z t = rw z at t

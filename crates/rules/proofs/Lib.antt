@@ -1,4 +1,5 @@
 -- What the definitions mean, beside the functions.
+pub mod Laws
 mod Readings
 mod Nests
 mod Mirrors

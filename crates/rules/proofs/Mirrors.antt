@@ -10,11 +10,11 @@ use Rattle.rules.specs.Label.{Label, own, forked, several}
 use Rattle.rules.specs.Model.{Row}
 use Rattle.rules.specs.Verdict.{Clear, RingAt}
 use Rattle.rules.specs.Derived.{Pairs, RowOf}
-use Rattle.rules.specs.Laws.Certificate.{pair, is_row}
-use Rattle.rules.specs.Laws.Older.{SatisfiesBy, ModelBy}
-use Rattle.rules.specs.Laws.Before104.{Unmirrored, ClearBefore, clear_before}
-use Rattle.rules.specs.Laws.Before105.{written}
-use Rattle.rules.specs.Laws.Judge.{is_clear, is_ring_at}
+use Rattle.rules.proofs.Laws.Certificate.{pair, is_row}
+use Rattle.rules.proofs.Laws.Older.{SatisfiesBy, ModelBy}
+use Rattle.rules.proofs.Laws.Before104.{Unmirrored, ClearBefore, clear_before}
+use Rattle.rules.proofs.Laws.Before105.{written}
+use Rattle.rules.proofs.Laws.Judge.{is_clear, is_ring_at}
 use Rattle.rules.proofs.Readings.{routine}
 use Rattle.rules.proofs.Nests.{Records, records}
 
@@ -66,17 +66,17 @@ unfolding ℕ_discrete
 other_mirror = records (mirrored (lock 4 (lock 2 (lock 3 end end) end) end)) 0 _ tt refl
 
 -- inside such a block h is the one outside, for a LOCK and for a called routine's name 0: (2, 5), and not (1, 5)
-holder-stays :
+holder_stays :
     Records (mirrored (new 5 (lock 1 (lock 2 (lock 3 (lock 5 end end) end) end) end))) 0
     (pair 0 1 own ∷ pair 1 2 own ∷ pair 2 5 own ∷ [])
 unfolding ℕ_discrete
-holder-stays = records (mirrored (new 5 (lock 1 (lock 2 (lock 3 (lock 5 end end) end) end) end))) 0 _ tt refl
+holder_stays = records (mirrored (new 5 (lock 1 (lock 2 (lock 3 (lock 5 end end) end) end) end))) 0 _ tt refl
 
-holder-stays-at-call :
+holder_stays_at_call :
     Records (mirrored (new 5 (lock 1 (lock 2 (lock 3 (call 1 (5 ∷ []) end) end) end) end))) 0
     (pair 0 1 own ∷ pair 1 2 own ∷ pair 2 5 own ∷ [])
 unfolding ℕ_discrete
-holder-stays-at-call =
+holder_stays_at_call =
     records (mirrored (new 5 (lock 1 (lock 2 (lock 3 (call 1 (5 ∷ []) end) end) end) end))) 0 _ tt refl
 
 -- directly inside its lock, too, a mirror records nothing
@@ -85,23 +85,23 @@ unfolding ℕ_discrete
 mirror_in_root = records (mirrored (lock 1 (lock 3 (lock 2 end end) end) end)) 0 _ tt refl
 
 -- the lock is in the nest no longer than its block is open
-mirror-given-back :
+mirror_given_back :
     Records (mirrored (lock 1 end (lock 2 (lock 3 end end) end))) 0 (pair 0 1 own ∷ pair 0 2 own ∷ pair 2 1 own ∷ [])
 unfolding ℕ_discrete
-mirror-given-back = records (mirrored (lock 1 end (lock 2 (lock 3 end end) end))) 0 _ tt refl
+mirror_given_back = records (mirrored (lock 1 end (lock 2 (lock 3 end end) end))) 0 _ tt refl
 
 -- a fork and a called routine have nests of their own: a mirror of what the parent or the caller holds is recorded
-parents-lock :
+parents_lock :
     Records (mirrored (lock 1 (fork 1 (lock 2 (lock 3 end end) end) end) end)) 0
     (pair 0 1 own ∷ pair 2 1 (forked 1) ∷ [])
 unfolding ℕ_discrete
-parents-lock = records (mirrored (lock 1 (fork 1 (lock 2 (lock 3 end end) end) end) end)) 0 _ tt refl
+parents_lock = records (mirrored (lock 1 (fork 1 (lock 2 (lock 3 end end) end) end) end)) 0 _ tt refl
 
-callers-lock :
+callers_lock :
     Records (mirrored (lock 1 (lock 2 (call 1 (1 ∷ []) end) end) end)) 0
     (pair 0 1 own ∷ pair 1 2 own ∷ pair 2 1 own ∷ [])
 unfolding ℕ_discrete
-callers-lock = records (mirrored (lock 1 (lock 2 (call 1 (1 ∷ []) end) end) end)) 0 _ tt refl
+callers_lock = records (mirrored (lock 1 (lock 2 (call 1 (1 ∷ []) end) end) end)) 0 _ tt refl
 
 -- a fork has the roots of its place
 mirror_in_fork : Records (mirrored (fork 1 (lock 3 (lock 2 end end) end) end)) 0 (pair 1 2 (forked 1) ∷ [])
@@ -109,10 +109,10 @@ unfolding ℕ_discrete
 mirror_in_fork = records (mirrored (fork 1 (lock 3 (lock 2 end end) end) end)) 0 _ tt refl
 
 -- a MIRROR between two takings does not end the nest
-mirror-between :
+mirror_between :
     Records (mirrored (lock 1 (mirror 5 2 (lock 5 (lock 1 end end) end)) end)) 0 (pair 0 1 own ∷ pair 1 2 own ∷ [])
 unfolding ℕ_discrete
-mirror-between = records (mirrored (lock 1 (mirror 5 2 (lock 5 (lock 1 end end) end)) end)) 0 _ tt refl
+mirror_between = records (mirrored (lock 1 (mirror 5 2 (lock 5 (lock 1 end end) end)) end)) 0 _ tt refl
 
 -- a fork nests 3 and 2, and the main thread 2 and 4
 abbrev crossing : Code

@@ -11,12 +11,12 @@ use Rattle.table.specs.Program.{Code, end, new, lock, fork, choice, call, Progra
 use Rattle.rules.specs.Label.{Label, own, forked, several}
 use Rattle.rules.specs.Model.{Kept, at_head, Recorded}
 use Rattle.rules.specs.Verdict.{Clear, RingAt}
-use Rattle.rules.specs.Laws.Lists.{Found}
+use Rattle.rules.proofs.Laws.Lists.{Found}
 use Rattle.rules.specs.Derived.{Pairs, RowOf}
-use Rattle.rules.specs.Laws.Certificate.{Pair, pair, recorded_of, settled?, is-recorded-by}
-use Rattle.rules.specs.Laws.Older.{RecordedBy, ModelBy, ClearBy}
-use Rattle.rules.specs.Laws.Before101.{never, FirstTakings, same_before}
-use Rattle.rules.specs.Laws.Judge.{is_clear, is_ring_at}
+use Rattle.rules.proofs.Laws.Certificate.{Pair, pair, recorded_of, settled?, is_recorded_by}
+use Rattle.rules.proofs.Laws.Older.{RecordedBy, ModelBy, ClearBy}
+use Rattle.rules.proofs.Laws.Before101.{never, FirstTakings, same_before}
+use Rattle.rules.proofs.Laws.Judge.{is_clear, is_ring_at}
 use Rattle.rules.proofs.Readings.{routine, table_g, clear_g}
 
 -- the body of routine r records the pairs of the list, and no others
@@ -24,7 +24,7 @@ abbrev pub Records : Program → ℕ → List Pair → Type 0
 Records P r ps = (a b : ℕ) (l : Label) → Found (pair a b l) ps (Recorded P (body P r) at_head a b l)
 
 pub records : (P : Program) (r : ℕ) (ps : List Pair) → T (settled? P) → recorded_of P r ≡ ps → Records P r ps
-records P r ps t e a b l = rw (← e) (is-recorded-by P t r a b l)
+records P r ps t e a b l = rw (← e) (is_recorded_by P t r a b l)
 
 -- routine 0 runs the code with three locks, and routine 1 locks its parameter
 abbrev nesting : Code → Program
@@ -44,10 +44,10 @@ unfolding ℕ_discrete
 taken_again = records (nesting (in_1_2 (in_1 (lock 3 end end)))) 0 _ tt refl
 
 -- the same for a called routine's name 0
-taken-again-at-call :
+taken_again_at_call :
     Records (nesting (in_1_2 (in_1 (call 1 (3 ∷ []) end)))) 0 (pair 0 1 own ∷ pair 1 2 own ∷ pair 2 3 own ∷ [])
 unfolding ℕ_discrete
-taken-again-at-call = records (nesting (in_1_2 (in_1 (call 1 (3 ∷ []) end)))) 0 _ tt refl
+taken_again_at_call = records (nesting (in_1_2 (in_1 (call 1 (3 ∷ []) end)))) 0 _ tt refl
 
 -- twice over: both names are in the nest, and 2 stays the holder
 taken_twice : Records (nesting (in_1_2 (in_1_2 (lock 3 end end)))) 0 (pair 0 1 own ∷ pair 1 2 own ∷ pair 2 3 own ∷ [])
@@ -55,10 +55,10 @@ unfolding ℕ_discrete
 taken_twice = records (nesting (in_1_2 (in_1_2 (lock 3 end end)))) 0 _ tt refl
 
 -- of three open, the outermost
-taken-again-outermost :
+taken_again_outermost :
     Records (nesting (in_1_2 (lock 3 (in_1 end) end))) 0 (pair 0 1 own ∷ pair 1 2 own ∷ pair 2 3 own ∷ [])
 unfolding ℕ_discrete
-taken-again-outermost = records (nesting (in_1_2 (lock 3 (in_1 end) end))) 0 _ tt refl
+taken_again_outermost = records (nesting (in_1_2 (lock 3 (in_1 end) end))) 0 _ tt refl
 
 -- a FORK, a CHOICE, a CALL or a NEW between the two takings does not end the nest
 abbrev taken_later : Program
@@ -75,10 +75,10 @@ unfolding ℕ_discrete
 forked_again = records (nesting (in_1 (fork 1 (lock 2 (in_1 end) end) end))) 0 _ tt refl
 
 -- and inside that nest the rule holds as elsewhere
-taken-again-in-fork :
+taken_again_in_fork :
     Records (nesting (fork 1 (in_1_2 (in_1 (lock 3 end end))) end)) 0 (pair 1 2 (forked 1) ∷ pair 2 3 (forked 1) ∷ [])
 unfolding ℕ_discrete
-taken-again-in-fork = records (nesting (fork 1 (in_1_2 (in_1 (lock 3 end end))) end)) 0 _ tt refl
+taken_again_in_fork = records (nesting (fork 1 (in_1_2 (in_1 (lock 3 end end))) end)) 0 _ tt refl
 
 -- a called routine has a nest of its own: what its caller holds is recorded as before
 called_again : Records (nesting (in_1_2 (call 1 (1 ∷ []) end))) 0 (pair 0 1 own ∷ pair 1 2 own ∷ pair 2 1 own ∷ [])
@@ -86,17 +86,17 @@ unfolding ℕ_discrete
 called_again = records (nesting (in_1_2 (call 1 (1 ∷ []) end))) 0 _ tt refl
 
 -- two parameters that stand for one lock are two names
-passed-twice :
+passed_twice :
     Records (routine 0 (new 1 (call 1 (1 ∷ 1 ∷ []) end)) ∷ routine 2 (in_1_2 end) ∷ []) 1
     (pair 0 1 own ∷ pair 1 2 own ∷ [])
 unfolding ℕ_discrete
-passed-twice = records (routine 0 (new 1 (call 1 (1 ∷ 1 ∷ []) end)) ∷ routine 2 (in_1_2 end) ∷ []) 1 _ tt refl
+passed_twice = records (routine 0 (new 1 (call 1 (1 ∷ 1 ∷ []) end)) ∷ routine 2 (in_1_2 end) ∷ []) 1 _ tt refl
 
 -- a name is in the nest no longer than its block is open
-closed-again :
+closed_again :
     Records (nesting (lock 1 end (lock 2 (in_1 end) end))) 0 (pair 0 1 own ∷ pair 0 2 own ∷ pair 2 1 own ∷ [])
 unfolding ℕ_discrete
-closed-again = records (nesting (lock 1 end (lock 2 (in_1 end) end))) 0 _ tt refl
+closed_again = records (nesting (lock 1 end (lock 2 (in_1 end) end))) 0 _ tt refl
 
 -- where it was taken again inside, it is in the nest until the first block is closed
 closed_inside : Records (nesting (in_1 (lock 1 end (lock 2 (in_1 end) end)))) 0 (pair 0 1 own ∷ pair 1 2 own ∷ [])
@@ -104,18 +104,18 @@ unfolding ℕ_discrete
 closed_inside = records (nesting (in_1 (lock 1 end (lock 2 (in_1 end) end)))) 0 _ tt refl
 
 -- both alternatives have the nest outside the choice, and neither has that of the other
-chosen-again :
+chosen_again :
     Records (nesting (in_1 (choice (lock 2 (in_1 end) end) (lock 3 (in_1 (lock 2 end end)) end) end))) 0
     (pair 0 1 own ∷ pair 1 2 own ∷ pair 1 3 own ∷ pair 3 2 own ∷ [])
 unfolding ℕ_discrete
-chosen-again =
+chosen_again =
     records (nesting (in_1 (choice (lock 2 (in_1 end) end) (lock 3 (in_1 (lock 2 end end)) end) end))) 0 _ tt refl
 
-chosen-apart :
+chosen_apart :
     Records (nesting (choice (in_1 end) (lock 2 (in_1 end) end) end)) 0
     (pair 0 1 own ∷ pair 0 2 own ∷ pair 2 1 own ∷ [])
 unfolding ℕ_discrete
-chosen-apart = records (nesting (choice (in_1 end) (lock 2 (in_1 end) end) end)) 0 _ tt refl
+chosen_apart = records (nesting (choice (in_1 end) (lock 2 (in_1 end) end) end)) 0 _ tt refl
 
 -- table j: the main thread nests 1, 2, 1 and a fork nests 1, 2
 abbrev table_j : Program
@@ -165,32 +165,35 @@ abbrev FromZero : Pairs
 FromZero r a b l = (a ≡ 0) × (0 < b)
 
 -- a LOCK inside a block of the same name: its pair has equal ends and one thread, and is not kept
-not-kept :
+not_kept :
     {a b : ℕ} {l m : Label} → Unit {0} × (◌≡◌ {A = Option ℕ} (some 1) (some a)) × (b ≡ 1) × (l ≡ m)
     → (m ≡ several → ⊥)
     → Kept a b l → ⊥
-not-kept q n (inl ne) = ne (let z : _ ≡ _ = cc in z)
-not-kept q n (inr e) = n (cc)
+not_kept q n (inl ne) = ne (let z : _ ≡ _ = cc in z)
+not_kept q n (inr e) = n (cc)
 
-recorded-e :
+recorded_e :
     (r a b : ℕ) (l : Label)
     → RecordedBy never (RowOf table_e FromZero) (body table_e r) at_head a b l → Kept a b l
     → FromZero r a b l
-recorded-e zero a b l (inl (inl q)) k = absurd (none-ne-some a q.1)
-recorded-e zero a b l (inl (inr (inl (inl q)))) k =
-    absurd (not-kept q (λ e. let z : ◌≡◌ {A = ℕ} 0 1 = cc in omega arith) k)
-recorded-e zero a b l (inl (inr (inl (inr (inl q))))) k = absurd q
-recorded-e zero a b l (inl (inr (inl (inr (inr q))))) k = absurd q
-recorded-e zero a b l (inr (inl q)) k = (cc, (let z : b ≡ 1 = q.2 in omega arith))
-recorded-e zero a b l (inr (inr (inl (inl q)))) k =
-    absurd (not-kept q (λ e. let z : ◌≡◌ {A = ℕ} 0 1 = cc in omega arith) k)
-recorded-e zero a b l (inr (inr (inl (inr (inl q))))) k = absurd q
-recorded-e zero a b l (inr (inr (inl (inr (inr q))))) k = absurd q
+recorded_e zero a b l (inl (inl q)) k = absurd (none-ne-some a q.1)
+recorded_e (suc _) a b l x4 k = elim x4 [ ]
+recorded_e zero a b l (inr (inr (inr x7))) k = elim x7 [ ]
+recorded_e zero a b l (inl (inr (inr x7))) k = elim x7 [ ]
+recorded_e zero a b l (inl (inr (inl (inl q)))) k =
+    absurd (not_kept q (λ e. let z : ◌≡◌ {A = ℕ} 0 1 = cc in omega arith) k)
+recorded_e zero a b l (inl (inr (inl (inr (inl q))))) k = absurd q
+recorded_e zero a b l (inl (inr (inl (inr (inr q))))) k = absurd q
+recorded_e zero a b l (inr (inl q)) k = (cc, (let z : b ≡ 1 = q.2 in omega arith))
+recorded_e zero a b l (inr (inr (inl (inl q)))) k =
+    absurd (not_kept q (λ e. let z : ◌≡◌ {A = ℕ} 0 1 = cc in omega arith) k)
+recorded_e zero a b l (inr (inr (inl (inr (inl q))))) k = absurd q
+recorded_e zero a b l (inr (inr (inl (inr (inr q))))) k = absurd q
 
 clear_e_before : ClearBy never table_e
 clear_e_before r x reached ring =
     let q = ring FromZero (record {
-      records = recorded-e;
+      records = recorded_e;
       follows = λ r a b c l m p q k. let z : b ≡ 0 = q.0 in let y : 0 < b = p.1 in absurd (omega arith);
     }) in
     let z : x ≡ 0 = q.0 in

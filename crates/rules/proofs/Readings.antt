@@ -11,9 +11,9 @@ use Rattle.rules.specs.Label.{Label, own, forked, unknown, several}
 use Rattle.rules.specs.Model.{Model, follows, Ring}
 use Rattle.rules.specs.Verdict.{Clear, RingAt}
 use Rattle.rules.specs.Share.{ShareOf}
-use Rattle.rules.specs.Laws.Tests.{both, equal}
-use Rattle.rules.specs.Laws.Certificate.{has_pair, pair-passes, OneLabel, one_label}
-use Rattle.rules.specs.Laws.Judge.{is_clear, is_ring_at, ring-passes, is_share}
+use Rattle.rules.proofs.Laws.Tests.{both, equal}
+use Rattle.rules.proofs.Laws.Certificate.{has_pair, pair_passes, OneLabel, one_label}
+use Rattle.rules.proofs.Laws.Judge.{is_clear, is_ring_at, ring_passes, is_share}
 
 abbrev pub routine : ℕ → Code → Routine
 routine k c = record { count = k; code = c }
@@ -57,7 +57,7 @@ ring_called = routine 0 (call 1 [] end) ∷ routine 0 crossed ∷ []
 ring_not_passed : Ring ring_called 1 1 × ((y : ℕ) → Ring ring_called 0 y → ⊥)
 unfolding ℕ_discrete
 ring_not_passed =
-    (has_pair ring_called 1 1 1 several tt, λ y. ring-passes ring_called (0 ∷ []) (λ r x. false) tt 0 y (inl refl))
+    (has_pair ring_called 1 1 1 several tt, λ y. ring_passes ring_called (0 ∷ []) (λ r x. false) tt 0 y (inl refl))
 
 -- a ring of a routine that no call reaches does not decide the verdict
 abbrev ring_unreached : Program
@@ -108,7 +108,7 @@ holder_at_call = has_pair (calls_held (call 1 (1 ∷ []) end)) 0 2 1 own tt
 no_holder_at_call : (a : ℕ) (l : Label) → Model (calls_held (fork 1 (call 1 (1 ∷ []) end) end)) 0 a 1 l → ⊥
 unfolding ℕ_discrete
 no_holder_at_call a l =
-    pair-passes (calls_held (fork 1 (call 1 (1 ∷ []) end) end)) (λ r c b m. not (eqb r 0 && eqb b 1)) tt
+    pair_passes (calls_held (fork 1 (call 1 (1 ∷ []) end) end)) (λ r c b m. not (eqb r 0 && eqb b 1)) tt
 
 -- routine 1 runs c, which locks 1 then 2; routine 0 calls it with two locks inside a fork
 abbrev calls_forked : Code → Program
@@ -131,4 +131,4 @@ fork_held = routine 0 (new 1 (new 2 (new 3 (lock 1 (fork 1 (lock 2 end (lock 3 e
 fork_holds_nothing : (a b : ℕ) (l : Label) → Model fork_held 0 a b l → (a ≡ 0) × (b ≡ 1)
 unfolding ℕ_discrete
 fork_holds_nothing a b l m =
-    (both (equal a 0) (equal b 1)).fact (pair-passes fork_held (λ r c d k. eqb c 0 && eqb d 1) tt m)
+    (both (equal a 0) (equal b 1)).fact (pair_passes fork_held (λ r c d k. eqb c 0 && eqb d 1) tt m)

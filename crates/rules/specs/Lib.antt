@@ -5,4 +5,3 @@ pub mod Model
 pub mod Derived
 pub mod Verdict
 pub mod Share
-pub mod Laws

@@ -1,4 +1,6 @@
 // Labels as numbers, and how they combine: 0 is the running thread, then come the forks, and then two more.
+#![tactic(auto)]
+
 ghost use Rattle.std.specs.Prelude.{◌≡◌, ◌<◌};
 ghost use Rattle.rules.specs.Label as label;
 ghost use Rattle.rules.specs.Number.{number, label_of, labels};

@@ -10,11 +10,11 @@ use Rattle.table.specs.Program.{Code, end, new, lock, fork, choice, call, mirror
 use Rattle.table.specs.Program.{body, names}
 use Rattle.table.specs.WellFormed.{In, NoDup, Scoped, Fresh, onces, WellFormed}
 use Rattle.rules.specs.Verdict.{Clear}
-use Rattle.rules.specs.Laws.Judge.{is_clear}
+use Rattle.rules.proofs.Laws.Judge.{is_clear}
 use Rattle.run.specs.Decide.{in?, some?, elsewhere?}
 use Rattle.run.specs.Run.{Thread, ended, at, start, first, second, step, Turn, run, locks}
 use Rattle.run.specs.Run.{taken?, wants, Waits, Circle, Safe}
-use Rattle.run.specs.Laws.Safety.{clear_is_safe}
+use Rattle.run.proofs.Laws.Safety.{clear_is_safe}
 
 -- What is seen of a thread: it is over, or it is at the head of a code, with the locks of the names 1, 2 and 3 (0 where
 -- one is not in scope), the locks it holds, the last taken first, and how many blocks and calls are open.
@@ -48,17 +48,17 @@ routine k c = record { count = k; code = c }
 abbrev nested : Program
 nested = routine 0 (new 1 (lock 1 (lock 1 end end) end)) ∷ []
 
-twice-held :
+twice_held :
     view nested (go 0 ∷ go 0 ∷ go 0 ∷ [])
     ≡ record { threads = here end (0 ∷ 0 ∷ 0 ∷ []) (0 ∷ 0 ∷ []) 2 ∷ []; made = 1 }
 unfolding step taken? elsewhere? some? in? ℕ_discrete
-twice-held = refl
+twice_held = refl
 
-once-held :
+once_held :
     view nested (go 0 ∷ go 0 ∷ go 0 ∷ go 0 ∷ [])
     ≡ record { threads = here end (0 ∷ 0 ∷ 0 ∷ []) (0 ∷ []) 1 ∷ []; made = 1 }
 unfolding step taken? elsewhere? some? in? ℕ_discrete
-once-held = refl
+once_held = refl
 
 -- A FORK inside a LOCK block, in a called routine: the new thread has the same names, holds nothing, and has no call to
 -- return from; after its END it is over. The old one goes on after the FORK, and holds the lock.
@@ -88,27 +88,27 @@ first_made : view making (go 0 ∷ go 0 ∷ []) ≡ record { threads = here end 
 unfolding step taken? elsewhere? some? in? ℕ_discrete
 first_made = refl
 
-second-made :
+second_made :
     view making (go 0 ∷ go 0 ∷ go 0 ∷ go 0 ∷ go 0 ∷ [])
     ≡ record { threads = here end (1 ∷ 0 ∷ 0 ∷ []) [] 1 ∷ []; made = 2 }
 unfolding step taken? elsewhere? some? in? ℕ_discrete
-second-made = refl
+second_made = refl
 
 -- MIRROR: both names stand for one lock, which a thread that holds it by the one takes again by the other.
 abbrev mirroring : Program
 mirroring = routine 0 (new 1 (new 2 (mirror 3 1 (lock 1 (lock 3 end end) end)))) ∷ []
 
-both-names :
+both_names :
     view mirroring (go 0 ∷ go 0 ∷ go 0 ∷ [])
     ≡ record { threads = here (lock 1 (lock 3 end end) end) (0 ∷ 1 ∷ 0 ∷ []) [] 0 ∷ []; made = 2 }
 unfolding step taken? elsewhere? some? in? ℕ_discrete
-both-names = refl
+both_names = refl
 
-held-by-both :
+held_by_both :
     view mirroring (go 0 ∷ go 0 ∷ go 0 ∷ go 0 ∷ go 0 ∷ [])
     ≡ record { threads = here end (0 ∷ 1 ∷ 0 ∷ []) (0 ∷ 0 ∷ []) 2 ∷ []; made = 2 }
 unfolding step taken? elsewhere? some? in? ℕ_discrete
-held-by-both = refl
+held_by_both = refl
 
 -- The same with another lock between, while a fork waits for the first: the thread goes on, and holds the first twice.
 abbrev mirroring_around : Program
@@ -118,7 +118,7 @@ mirroring_around =
     (lock 1 (lock 2 (lock 3 end end) end) end)))))
     ∷ []
 
-held-around :
+held_around :
     view mirroring_around (go 0 ∷ go 0 ∷ go 0 ∷ go 0 ∷ go 0 ∷ go 0 ∷ go 1 ∷ go 0 ∷ [])
     ≡ record {
       threads =
@@ -128,7 +128,7 @@ held-around :
       made = 2;
     }
 unfolding step taken? elsewhere? some? in? ℕ_discrete
-held-around = refl
+held_around = refl
 
 -- Inside a LOCK block, a called routine and an alternative: the parameter's lock has a second name there, which is out
 -- of scope after the alternative.
@@ -138,27 +138,27 @@ mirroring_inside =
     ∷ routine 1 (choice (mirror 2 1 (lock 2 end end)) end end)
     ∷ []
 
-mirror-inside :
+mirror_inside :
     view mirroring_inside (go 0 ∷ go 0 ∷ go 0 ∷ go 0 ∷ go 0 ∷ go 0 ∷ go 0 ∷ [])
     ≡ record { threads = here end (1 ∷ 1 ∷ 0 ∷ []) (1 ∷ 0 ∷ []) 4 ∷ []; made = 2 }
 unfolding step taken? elsewhere? some? in? ℕ_discrete
-mirror-inside = refl
+mirror_inside = refl
 
-mirror-closed :
+mirror_closed :
     view mirroring_inside (go 0 ∷ go 0 ∷ go 0 ∷ go 0 ∷ go 0 ∷ go 0 ∷ go 0 ∷ go 0 ∷ go 0 ∷ [])
     ≡ record { threads = here end (1 ∷ 0 ∷ 0 ∷ []) (0 ∷ []) 2 ∷ []; made = 2 }
 unfolding step taken? elsewhere? some? in? ℕ_discrete
-mirror-closed = refl
+mirror_closed = refl
 
 -- OTHER is a step of its own, and so is the END of the second alternative; both go on after the choice.
 abbrev choosing : Program
 choosing = routine 0 (choice end end (new 1 end)) ∷ []
 
-after-other :
+after_other :
     view choosing (go 0 ∷ go 0 ∷ [])
     ≡ record { threads = here (new 1 end) (0 ∷ 0 ∷ 0 ∷ []) [] 0 ∷ []; made = 0 }
 unfolding step taken? elsewhere? some? in? ℕ_discrete
-after-other = refl
+after_other = refl
 
 after_second : view choosing (other 0 ∷ go 0 ∷ []) ≡ view choosing (go 0 ∷ go 0 ∷ [])
 unfolding step taken? elsewhere? some? in? ℕ_discrete
@@ -239,7 +239,7 @@ table_g =
 laid : List Turn
 laid = go 0 ∷ go 0 ∷ other 0 ∷ go 0 ∷ go 0 ∷ go 0 ∷ other 0 ∷ go 0 ∷ go 0 ∷ go 1 ∷ go 2 ∷ []
 
-laid-state :
+laid_state :
     view table_g laid
     ≡ record {
       threads =
@@ -250,7 +250,7 @@ laid-state :
       made = 3;
     }
 unfolding laid step taken? elsewhere? some? in? ℕ_discrete
-laid-state = refl
+laid_state = refl
 
 -- thread 1 now waits for thread 2, since its name 3 stands for the lock 1
 laid_waits : Waits (run table_g (start table_g) laid) 1 2
@@ -263,7 +263,7 @@ laid_waits = (1, wants refl, (λ e. omega arith), inl refl)
 eaten : List Turn
 eaten = go 1 ∷ go 5 ∷ go 0 ∷ go 0 ∷ go 0 ∷ go 2 ∷ go 2 ∷ go 2 ∷ go 2 ∷ go 1 ∷ []
 
-eaten-state :
+eaten_state :
     view table_g (laid ++ eaten)
     ≡ record {
       threads =
@@ -274,17 +274,19 @@ eaten-state :
       made = 3;
     }
 unfolding laid eaten step taken? elsewhere? some? in? ℕ_discrete
-eaten-state = refl
+eaten_state = refl
 
 formed_g : WellFormed table_g
 formed_g = record { main = refl; scoped = scoped; fresh = fresh; once = once; some_routine = omega arith }
   where
     ones : (x : ℕ) → In x (1 ∷ 1 ∷ []) → In x (1 ∷ [])
     ones x (inl e) = inl e
+    ones x (inr (inr x3)) = elim x3 [ ]
     ones x (inr (inl e)) = inl e
 
     others : (x : ℕ) → In x (3 ∷ 2 ∷ []) → In x (3 ∷ 2 ∷ 1 ∷ [])
     others x (inl e) = inl e
+    others x (inr (inr x3)) = elim x3 [ ]
     others x (inr (inl e)) = inr (inl e)
 
     scoped :
@@ -332,24 +334,24 @@ calling =
     ∷ routine 2 (lock 2 end end)
     ∷ []
 
-in-callee :
+in_callee :
     view calling (go 0 ∷ go 0 ∷ go 0 ∷ go 0 ∷ go 0 ∷ [])
     ≡ record { threads = here end (1 ∷ 0 ∷ 0 ∷ []) (0 ∷ 1 ∷ []) 3 ∷ []; made = 2 }
 unfolding step taken? elsewhere? some? in? ℕ_discrete
-in-callee = refl
+in_callee = refl
 
-in-alternative :
+in_alternative :
     view calling (go 0 ∷ go 0 ∷ go 0 ∷ go 0 ∷ go 0 ∷ go 0 ∷ go 0 ∷ go 0 ∷ [])
     ≡ record { threads = here end (0 ∷ 1 ∷ 0 ∷ []) (1 ∷ []) 2 ∷ []; made = 2 }
 unfolding step taken? elsewhere? some? in? ℕ_discrete
-in-alternative = refl
+in_alternative = refl
 
 -- a thread that has ended leaves the state as it is
-ended-stays-ended :
+ended_stays_ended :
     view making (go 0 ∷ go 0 ∷ go 0 ∷ go 0 ∷ go 0 ∷ go 0 ∷ go 0 ∷ go 0 ∷ [])
     ≡ record { threads = over ∷ []; made = 2 }
 unfolding step taken? elsewhere? some? in? ℕ_discrete
-ended-stays-ended = refl
+ended_stays_ended = refl
 
 -- Three threads in a circle: each holds one of the locks 0, 1 and 2 and wants the next.
 abbrev three : Program
@@ -429,6 +431,7 @@ formed_crossed = record { main = refl; scoped = scoped; fresh = fresh; once = on
 
     -- 2, 3 and 4 are not among the names below
     not_one : (x : ℕ) → 1 < x → ¬ In x (1 ∷ [])
+    not_one x lt (inr x'') = elim x'' [ ]
     not_one x lt (inl e) = omega arith
 
     not_two : (x : ℕ) → 2 < x → ¬ In x (2 ∷ 1 ∷ [])

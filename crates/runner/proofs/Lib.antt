@@ -1,3 +1,4 @@
+pub mod Laws
 mod BeginLaws
 mod SectionLaws
 pub mod WalkLaws

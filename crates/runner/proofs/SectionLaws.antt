@@ -5,7 +5,7 @@ use Prim.Native.Nat.{ℕ, suc, ◌+◌, ◌-◌, ◌^◌, ◌<◌, ◌≤◌}
 use native.Mathlib.Omega.{arith}
 use lib.ListN.{length, get_or, take, drop}
 use Rattle.table.specs.Check.{refused, check_table}
-use Rattle.table.specs.Laws.Sections.{Holds, AcceptedAs}
+use Rattle.table.proofs.Laws.Sections.{Holds, AcceptedAs}
 use Rattle.steps.specs.declared.machine.Machine.{Machine}
 use Rattle.steps.specs.Machines.{over_as}
 use Rattle.links.specs.Holding.{Links}

@@ -5,4 +5,3 @@ pub mod Follows
 pub mod Tracks
 pub mod Bounds
 pub mod Parts
-pub mod Laws

@@ -12,7 +12,7 @@ use lib.Bits.{bit_or, or_lt}
 use lib.Pow.{pow-lt}
 use Rattle.table.specs.Laws.ScopeMask.{grows, shift_one}
 use Rattle.grid.specs.Rows.{Has, Bits}
-use Rattle.grid.specs.Laws.Masks.{has_zero, has_left, has_right, has_or, has_pow, pow_has, bits_map}
+use Rattle.grid.proofs.Laws.Masks.{has_zero, has_left, has_right, has_or, has_pow, pow_has, bits_map}
 use Rattle.settle.specs.Due.{Highest, All, Below, CallerAdded, Callers}
 use Rattle.settle.specs.Laws.Masks.{has_top, Gathered, gathered_none, gathered_more}
 use Rattle.settle.specs.Laws.Off.{inside as within, taken as bit_taken, rest_bits, rest_less as less-left}

@@ -12,11 +12,11 @@ use Rattle.table.specs.Program.{Program, body}
 use Rattle.table.specs.Laws.ScopeMask.{grows}
 use Rattle.rules.specs.Verdict.{Calls}
 use Rattle.grid.specs.Rows.{Has, Bits}
-use Rattle.grid.specs.Laws.Masks.{has_zero, has_below, has_left, has_right, has_or}
+use Rattle.grid.proofs.Laws.Masks.{has_zero, has_below, has_left, has_right, has_or}
 use Rattle.rows.specs.Model.{total, Moves}
 use Rattle.rows.specs.Laws.Totals.{room_falls}
 use Rattle.settle.specs.Settle.{PartlyWith, Fresh}
-use Rattle.table.specs.Laws.Sections.{routines, few}
+use Rattle.table.proofs.Laws.Sections.{routines, few}
 use Rattle.settle.specs.Bodies.{Linked, BodyOf, RowReady, Improves}
 use Rattle.settle.specs.Bodies.{Started, Settles}
 use Rattle.settle.specs.Laws.Cleared.{has?}

@@ -11,7 +11,7 @@ use lib.Pow.{pow_pos, pow-lt}
 use native.Mathlib.Nat.{le_refl}
 use Rattle.table.specs.Laws.ScopeMask.{shift_one}
 use Rattle.grid.specs.Rows.{Has, Bits}
-use Rattle.grid.specs.Laws.Masks.{has_zero, has_left, has_right, has_or, has_pow, pow_has, bits_beyond}
+use Rattle.grid.proofs.Laws.Masks.{has_zero, has_left, has_right, has_or, has_pow, pow_has, bits_beyond}
 use Rattle.settle.specs.Due.{Highest}
 use Rattle.settle.specs.Reach.{CallBit, Reachable, main, next, CanReach}
 use Rattle.settle.specs.Laws.Masks.{and_part, has_top, less_bit}
@@ -123,9 +123,9 @@ module _ (calls : List ℕ) (from : ℕ) where
         step p q h c (no n) = ⊎_elim (λ x. new p q n x c (ℕ_discrete _ 1)) (λ x. old p q n x c) (has_or to mask p h)
 
     -- what is new comes into the mask and to those that are left, and r is left no more
-    followed-less :
+    followed_less :
         2 * (18446744073709551616 - next_mask) + next_left < 2 * (18446744073709551616 - mask) + left
-    followed-less =
+    followed_less =
         let both : bit_and next_mask mask ≡ mask = and_part 64 to mask f.fits in
         let New-is = xor_add_and next_mask mask in
         let sum = or_add_and (left - 2 ^ r) new_ones in
@@ -141,7 +141,7 @@ module _ (calls : List ℕ) (from : ℕ) where
       small = small;
       taken = bit_taken;
       again = followed_more;
-      less = followed-less;
+      less = followed_less;
     }
 
   -- routine `from` was visited; the bit of `from` is as code shifts it

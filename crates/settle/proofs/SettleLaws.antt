@@ -15,10 +15,10 @@ use Rattle.rules.specs.Verdict.{Calls}
 use Rattle.rules.specs.Derived.{RowOf}
 use Rattle.rows.specs.Bytes.{RowBits, RingByte, RowsOf}
 use Rattle.rows.specs.Model.{RowAdded, GridRow, HasRing}
-use Rattle.rows.specs.Laws.Fixpoint.{calls-only, up-to-date-kept}
+use Rattle.rows.specs.Laws.Fixpoint.{calls_only, up_to_date_kept}
 use Rattle.rows.specs.Laws.Cells.{apart, row_moves}
 use Rattle.rounds.specs.Given.{RowsWith}
-use Rattle.rounds.specs.Laws.LeastGiven.{Within, derived_mono, with_satisfies}
+use Rattle.rounds.proofs.Laws.LeastGiven.{Within, derived_mono, with_satisfies}
 use Rattle.settle.specs.Settle.{WorkedOut, Named, Fresh, Whole, PartlyWith, Improved}
 
 module _ (P : Program) (T : ℕ → Type 0) (T? : (q : ℕ) → Dec (T q)) (listed : (q : ℕ) → T q → q < length P)
@@ -86,10 +86,10 @@ module _ (P : Program) (T : ℕ → Type 0) (T? : (q : ℕ) → Dec (T q)) (list
   module _ (q : ℕ) (lq : q < length P) (same : (p a b : ℕ) (l : Label) → Calls (body P q) p
       → RowsOf (length P) after p a b l → RowsOf (length P) model p a b l) where
     back : (a b : ℕ) (l : Label) → WorkedOut P after q a b l → WorkedOut P model q a b l
-    back = calls-only P (RowsOf (length P) after) (RowsOf (length P) model) q same
+    back = calls_only P (RowsOf (length P) after) (RowsOf (length P) model) q same
 
     forth : (a b : ℕ) (l : Label) → WorkedOut P model q a b l → WorkedOut P after q a b l
-    forth = calls-only P (RowsOf (length P) model) (RowsOf (length P) after) q (λ p a b l k. keeps p a b l)
+    forth = calls_only P (RowsOf (length P) model) (RowsOf (length P) after) q (λ p a b l k. keeps p a b l)
 
     stays_named : (y : ℕ) → Named P model q y → Named P after q y
     stays_named y n = record {
@@ -99,7 +99,7 @@ module _ (P : Program) (T : ℕ → Type 0) (T? : (q : ℕ) → Dec (T q)) (list
 
     stays_fresh : q ≢ r → Fresh P model names q → Fresh P after renamed q
     stays_fresh m f = record {
-      row = up-to-date-kept P (RowsOf (length P) model) (RowsOf (length P) after) q (keeps q) same f.row;
+      row = up_to_date_kept P (RowsOf (length P) model) (RowsOf (length P) after) q (keeps q) same f.row;
       ring = λ y w. add.ring_old q (f.ring y (back y y several w));
       name = rw (get_or-set_other names r q x 0 m) (stays_named (get_or names q 0) f.name);
     }

@@ -8,19 +8,19 @@ use lib.ListN.{length, get_or, drop}
 use Rattle.table.specs.Constants.{END}
 use Rattle.table.specs.Program.{body}
 use Rattle.table.specs.Encoding.{encode}
-use Rattle.table.specs.Laws.Formed.{well_formed}
+use Rattle.table.proofs.Laws.Formed.{well_formed}
 use Rattle.rules.specs.Label.{Label}
 use Rattle.rules.specs.Model.{at_head}
 use Rattle.rules.specs.Derived.{RecordedFrom, Closed, KeptFrom}
 use Rattle.grid.specs.Grid.{Pair, Small, AllKept, Empty, Closure}
 use Rattle.rows.specs.Bytes.{RowBits, RowsOf}
-use Rattle.rows.specs.Laws.Fixpoint.{closed-mono, recorded-calls}
-use Rattle.table.specs.Laws.Fine.{IsBody}
+use Rattle.rows.specs.Laws.Fixpoint.{closed_mono, recorded_calls}
+use Rattle.table.proofs.Laws.Fine.{IsBody}
 use Rattle.pairs.specs.Gains.{Gains}
 use Rattle.pairs.specs.Parts.{Records}
 use Rattle.settle.specs.Bodies.{BodyReady, Works}
-use Rattle.rules.specs.Laws.Verdict.{body_calls}
-use Rattle.table.specs.Laws.Sections.{routines}
+use Rattle.rules.proofs.Laws.Verdict.{body_calls}
+use Rattle.table.proofs.Laws.Sections.{routines}
 use Rattle.settle.specs.Laws.Surveys.{rest, fine_here, bytes_here, is_body}
 
 module _ (ks s : List ℕ) (at r : ℕ) (rows : List ℕ) where
@@ -54,7 +54,7 @@ module _ (ks s : List ℕ) (at r : ℕ) (rows : List ℕ) where
       to_rows : (a b : ℕ) (l : Label) → Pair g a b l → KeptFrom (RowsOf (length P) rows) (body P r) a b l
       to_rows a b l p =
           let w = ⊎_elim (λ q. absurd (em.none a b l q)) (λ q. q) (gains.only a b l p) in (
-            recorded-calls (RowBits rows) (RowsOf (length P) rows) (body P r)
+            recorded_calls (RowBits rows) (RowsOf (length P) rows) (body P r)
                 (λ q x y m k h. (body_calls P (well_formed P o.holds.limits) r q o.listed k, h)) at_head a b l
                 w.0,
             w.1,
@@ -63,12 +63,12 @@ module _ (ks s : List ℕ) (at r : ℕ) (rows : List ℕ) where
       from_rows : (a b : ℕ) (l : Label) → KeptFrom (RowsOf (length P) rows) (body P r) a b l → Pair g a b l
       from_rows a b l w =
           gains.new a b l
-          (recorded-calls (RowsOf (length P) rows) (RowBits rows) (body P r) (λ q x y m k h. h.1) at_head
+          (recorded_calls (RowsOf (length P) rows) (RowBits rows) (body P r) (λ q x y m k h. h.1) at_head
           a b l w.0)
           w.1
 
       only : (a b : ℕ) (l : Label) → Pair c a b l → Closed (KeptFrom (RowsOf (length P) rows) (body P r)) a b l
-      only a b l p = closed-mono (Pair g) (KeptFrom (RowsOf (length P) rows) (body P r)) to_rows (cl.only a b l p)
+      only a b l p = closed_mono (Pair g) (KeptFrom (RowsOf (length P) rows) (body P r)) to_rows (cl.only a b l p)
 
       all : (a b : ℕ) (l : Label) → Closed (KeptFrom (RowsOf (length P) rows) (body P r)) a b l → Pair c a b l
-      all a b l w = cl.all a b l (closed-mono (KeptFrom (RowsOf (length P) rows) (body P r)) (Pair g) from_rows w)
+      all a b l w = cl.all a b l (closed_mono (KeptFrom (RowsOf (length P) rows) (body P r)) (Pair g) from_rows w)

@@ -1,4 +1,6 @@
 // One step of one thread: the record and the machine in, the record and the machine out.
+#![tactic(auto)]
+
 ghost use Rattle.std.specs.Prelude.{◌≡◌, ◌+◌, ◌<◌, ◌≤◌};
 ghost use Rattle.schedule.specs.Limits.{most_locks};
 ghost use Rattle.steps.specs.Records.{Level};
@@ -24,7 +26,7 @@ use thread::{
 };
 
 // A record and the machine, after a step.
-#[derive(Drop)]
+#[derive(Clone, Copy)]
 pub struct Ticked {
     pub thread: Thread,
     pub machine: Machine,

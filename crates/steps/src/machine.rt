@@ -34,7 +34,7 @@ pub const BEYOND: u64 = 17;
 // `pick` is the record that is looked at next; `read` bytes of the schedule are taken. Lock l is held `count[l]` times,
 // by the thread `owner[l]`. `wants[t]` is the lock that thread t's next item takes, FREE or GONE. `head` and `born` are
 // the offset and the names of the thread whose record is to be written.
-#[derive(Drop)]
+#[derive(Clone, Copy)]
 pub struct Machine {
     pub stage: u8,
     pub answer: u64,

@@ -14,7 +14,7 @@ use table::scope::size;
 // `goes[d]`. Level 0 is the body or FORK block that it began with, level d + 1 is what frame d opened. The lock that
 // name x stands for at level d is at MOST_NAMES * d + x of `names`.
 #[repr(C)]
-#[derive(Drop)]
+#[derive(Clone, Copy)]
 pub struct Thread {
     pub at: usize,
     pub depth: usize,

@@ -1,6 +1,6 @@
+pub mod Laws
 mod NameLaws
 mod ReaderLaws
 mod OpeningLaws
 mod HeaderLaws
-mod WalkLaws
 mod Examples

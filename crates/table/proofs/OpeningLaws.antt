@@ -16,8 +16,8 @@ use Rattle.table.specs.Program.{Code}
 use Rattle.table.specs.Check.{Item, a_lock, a_fork, a_choice, Place, past, starting, Block, ok, bad}
 use Rattle.table.specs.Check.{Head, more, closed, wrong, opened, in?, named, call_item, item_if, block}
 use Rattle.table.specs.Check.{mirror_item, item}
-use Rattle.table.specs.Laws.Cases.{cond_cases}
-use Rattle.table.specs.Laws.Sound.{named_fit}
+use Rattle.table.proofs.Laws.Cases.{cond_cases}
+use Rattle.table.proofs.Laws.Sound.{named_fit}
 use Rattle.table.specs.Laws.ScopeMask.{bits, grows, shift_one}
 use Rattle.table.specs.Laws.Readers.{place_of, with_item, with_local, with_fork, counts_past, counts_after, scope_after}
 use Rattle.table.specs.Laws.Readers.{read_of, head_of, item_answer, after_block, after_first, finished}
@@ -139,6 +139,11 @@ module _ (ks s : List ℕ) (at d : ℕ) (first : Bool) (own m : ℕ) (n : Counts
   Opener MIRROR = ⊥
 
   pub deep : (o : Op) → Opener o → get_or s at 0 ≡ code o → d ≡ 0 → Says (Fault 10)
+  deep MIRROR h e z = elim h [ ]
+  deep CALL h e z = elim h [ ]
+  deep OTHER h e z = elim h [ ]
+  deep NEW h e z = elim h [ ]
+  deep END h e z = elim h [ ]
   deep LOCK h e z = record { answer = sym (by_code (code LOCK) e ∙ rw (eq-eqb d 0 z)); ready = tt }
   deep FORK h e z = record { answer = sym (by_code (code FORK) e ∙ rw (eq-eqb d 0 z)); ready = tt }
   deep CHOICE h e z = record { answer = sym (by_code (code CHOICE) e ∙ rw (eq-eqb d 0 z)); ready = tt }

@@ -17,14 +17,14 @@ use Rattle.table.specs.Encoding.{encode, counts}
 use Rattle.table.specs.Check.{Item, a_new, a_lock, a_fork, a_choice, a_call, a_mirror, Place, past, starting}
 use Rattle.table.specs.Check.{Block, ok, bad, Head, more, closed, wrong, opened, in?, named, lock_item, call_item}
 use Rattle.table.specs.Check.{after, mirror_item, item_of, joined, go_on, block, item}
-use Rattle.table.specs.Laws.Sound.{closing, RightB, block_right}
-use Rattle.table.specs.Laws.Fuel.{block_step}
+use Rattle.table.proofs.Laws.Sound.{closing, RightB, block_right}
+use Rattle.table.proofs.Laws.Fuel.{block_step}
 use Rattle.table.specs.Laws.ScopeMask.{bits, bits_add, grows, double}
 use Rattle.table.specs.Laws.Readers.{place_of, with_item, with_fork, counts_past, counts_after, scope_after}
 use Rattle.table.specs.Laws.Readers.{read_of, head_of, block_answer, item_answer, Ready}
 use Rattle.table.specs.Check.{item_if}
-use Rattle.table.specs.Laws.Cases.{cond_cases}
-use Rattle.table.specs.Laws.Items.{items_some, items_bytes}
+use Rattle.table.proofs.Laws.Cases.{cond_cases}
+use Rattle.table.proofs.Laws.Items.{items_some, items_bytes}
 use Rattle.table.specs.declared.bodies.Counts.{Counts}
 use Rattle.table.specs.declared.bodies.ItemRead.TheVariants.{More, Closed, Wrong}
 use Rattle.table.specs.declared.bodies.BlockRead.TheVariants.{Read, Bad}
@@ -143,10 +143,10 @@ module _ (ks s : List ℕ) (at d : ℕ) (first : Bool) (own m : ℕ) (n : Counts
   opened_good (bad e) f h = tt
 
   -- NEW, or MIRROR with its name, of the bytes a
-  new-good :
+  new_good :
       (a l : List ℕ) → drop at s ≡ a ++ l → 1 ≤ length a → n.locals < most_locals
       → Good (more (a_new (own + n.locals + 1)) l)
-  new-good a l e long lt =
+  new_good a l e long lt =
       let x : Next s at l × (length s - length l ≡ at + length a) = next_of s a l at e (omega arith) in
       let h : m < 2 ^ (own + n.locals + 1) = rd.below in
       let g : own ≤ most_params = rd.few_params in
@@ -228,13 +228,13 @@ module _ (ks s : List ℕ) (at d : ℕ) (first : Bool) (own m : ℕ) (n : Counts
   mirror_good : (b : ℕ) (l : List ℕ) → drop at s ≡ b ∷ l → n.locals < most_locals → Good (mirror_item w l)
   mirror_good b [] e lt = tt
   mirror_good b (y ∷ l) e lt = cond_cases Good (in? y (bits m)) _ _
-      (λ i. let g = new-good (b ∷ y ∷ []) l e (omega arith) lt in
+      (λ i. let g = new_good (b ∷ y ∷ []) l e (omega arith) lt in
       record { next = g.next; ready = g.ready; place = g.place })
       (λ i. tt)
 
   op_good : (b : ℕ) (o : Op) (l : List ℕ) → drop at s ≡ b ∷ l → Good (item_of (block ks) ks d first w o l)
   op_good b END l e = cond_cases Good first _ _ (λ i. tt) (λ i. (next_of s (b ∷ []) l at e (omega arith)).0)
-  op_good b NEW l e = cond_cases Good (leb most_locals n.locals) _ _ (λ i. tt) (λ i. new-good (b ∷ []) l e
+  op_good b NEW l e = cond_cases Good (leb most_locals n.locals) _ _ (λ i. tt) (λ i. new_good (b ∷ []) l e
       (omega arith) (leb-false most_locals n.locals i))
   op_good b LOCK l e = cond_cases Good (eqb d 0) _ _ (λ i. tt) (λ i. lock_good b l e)
   op_good b FORK l e = cond_cases Good (eqb d 0) _ _ (λ i. tt) (λ i. cond_cases Good (leb most_forks n.forks) _ _

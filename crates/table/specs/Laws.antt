@@ -1,15 +1,3 @@
 -- Laws of the definitions. No contract cites them: the checker reads them, nobody else has to.
-pub mod Cases
-pub mod Lists
 pub mod ScopeMask
-pub mod Fuel
 pub mod Readers
-pub mod Refusals
-pub mod Sound
-pub mod Complete
-pub mod Formed
-pub mod Items
-pub mod Accepts
-pub mod Fine
-pub mod Within
-pub mod Sections

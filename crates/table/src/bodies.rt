@@ -8,7 +8,7 @@ use crate::limits::{CALL, CHOICE, END, FORK, LOCK, MIRROR, MOST_FORKS, MOST_LOCA
 use crate::scope::{in_scope, names_at, size, wide};
 
 // How many NEW and MIRROR, and FORK, of the routine, and how many items of the table, stand before a place.
-#[derive(Drop)]
+#[derive(Clone, Copy)]
 pub struct Counts {
     pub locals: u64,
     pub forks: u64,

@@ -1,4 +1,6 @@
 // The handler table: whether its bytes are accepted, with how many routines and items, or which refusal comes first.
+#![tactic(auto)]
+
 ghost use Rattle.std.specs.Prelude.{◌≡◌, true};
 ghost use Rattle.table.specs.Check.{small?, bodies, check_table};
 ghost use Rattle.table.specs.Answer.{checked_of};

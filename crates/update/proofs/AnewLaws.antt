@@ -9,13 +9,13 @@ use native.Mathlib.Decide.{ℕ_discrete}
 use lib.Count.{count_leading_zeros}
 use lib.Pow.{pow_pos}
 use lib.ListN.{length, get_or}
-use Rattle.table.specs.Laws.Lists.{body_listed}
+use Rattle.table.proofs.Laws.Lists.{body_listed}
 use Rattle.table.specs.Program.{Program, body}
 use Rattle.table.specs.Laws.ScopeMask.{grows}
-use Rattle.table.specs.Laws.Sections.{routines}
+use Rattle.table.proofs.Laws.Sections.{routines}
 use Rattle.rules.specs.Verdict.{Calls}
 use Rattle.grid.specs.Rows.{Has, Bits}
-use Rattle.grid.specs.Laws.Masks.{has_zero, has_below}
+use Rattle.grid.proofs.Laws.Masks.{has_zero, has_below}
 use Rattle.rows.specs.Model.{Shaped, Cleared}
 use Rattle.rows.specs.Laws.Cells.{apart}
 use Rattle.rounds.specs.Reaches.{ReachesBy, calls, passes, Touched}

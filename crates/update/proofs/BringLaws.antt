@@ -8,10 +8,10 @@ use lib.ListN.{length, get_or, take, drop}
 use Rattle.table.specs.Constants.{row_bytes}
 use Rattle.table.specs.Program.{Program}
 use Rattle.table.specs.Check.{refused, accepted, check_table}
-use Rattle.table.specs.Laws.Sections.{Holds, routines, AcceptedAs}
+use Rattle.table.proofs.Laws.Sections.{Holds, routines, AcceptedAs}
 use Rattle.rows.specs.Model.{Shaped}
 use Rattle.rounds.specs.OneBody.{OnlyBody}
-use Rattle.rounds.specs.Laws.OneBody.{bytes_of_only_body}
+use Rattle.rounds.proofs.Laws.OneBody.{bytes_of_only_body}
 use Rattle.settle.specs.Due.{Callers}
 use Rattle.settle.specs.Bodies.{BodyOf, Known}
 use Rattle.settle.specs.Laws.Links.{linked}
@@ -21,8 +21,8 @@ use Rattle.update.specs.Parts.{Answers, RowsFit, CanRework, Reworks, CanCompare,
 use Rattle.update.specs.Parts.{CanBringKnown, BringsKnown, CanBring, Brings, BringsAccepted}
 use Rattle.update.specs.declared.Updated.{Updated}
 use Rattle.update.specs.declared.Updated.TheVariants.{Done, Refused}
-use Rattle.update.specs.Laws.Fits.{formed_of_fits, fits_of_formed, shaped_of_formed}
-use Rattle.update.specs.Laws.Reworked.{up_to_date}
+use Rattle.update.proofs.Laws.Fits.{formed_of_fits, fits_of_formed, shaped_of_formed}
+use Rattle.update.proofs.Laws.Reworked.{up_to_date}
 use Rattle.update.proofs.FitLaws.{told_not, told_so}
 
 -- the second program was surveyed

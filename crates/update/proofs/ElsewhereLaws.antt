@@ -10,10 +10,10 @@ use lib.Seq.{take_all}
 use Rattle.table.specs.Constants.{END}
 use Rattle.table.specs.Program.{Program, body}
 use Rattle.table.specs.Encoding.{encode, encode_bodies, counts}
-use Rattle.table.specs.Laws.Fine.{IsBody}
-use Rattle.table.specs.Laws.Sections.{Holds, routines, few}
+use Rattle.table.proofs.Laws.Fine.{IsBody}
+use Rattle.table.proofs.Laws.Sections.{Holds, routines, few}
 use Rattle.rounds.specs.OneBody.{OnlyBody}
-use Rattle.rounds.specs.Laws.OneBody.{SameBytes, prefix-unique, only_body_of_bytes, bytes_of_only_body}
+use Rattle.rounds.proofs.Laws.OneBody.{SameBytes, prefix_unique, only_body_of_bytes, bytes_of_only_body}
 use Rattle.pairs.specs.Parts.{Scans}
 use Rattle.settle.specs.Bodies.{start_of, BodyOf}
 use Rattle.settle.specs.Laws.Starts.{length_before, start_within, bodies_before_lem, bodies_from, start_next}
@@ -86,7 +86,7 @@ module _ (P Q : Program) (ks s t : List ℕ) (at r : ℕ) (p : Holds P ks s) (q 
   module _ (w : SameBefore s t at) where
     same_routines : take r P ≡ take r Q
     same_routines =
-        prefix-unique P Q P Q (drop at s) r same_counts p.limits.fits q.holds.limits.fits same_counts
+        prefix_unique P Q P Q (drop at s) r same_counts p.limits.fits q.holds.limits.fits same_counts
         (sym p.bytes_are ∙ sym (take-append-drop at s)
         ∙ ap (λ (v : List ℕ). v ++ drop at s) (w.1 ∙ second_before))
 

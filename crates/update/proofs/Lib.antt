@@ -1,3 +1,4 @@
+pub mod Laws
 mod ZeroLaws
 mod FitLaws
 mod AnewLaws

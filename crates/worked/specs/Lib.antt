@@ -1,3 +1,2 @@
 -- The worked tables of docs/FORMAT.md and the theorem about them.
 pub mod Cases
-pub mod Laws

@@ -1,1 +1,2 @@
 // The worked tables: definitions and theorems alone, no code.
+#![tactic(auto)]

@@ -8,19 +8,19 @@ use lib.ListN.{length, get_or}
 use Rattle.table.specs.Constants.{END}
 use Rattle.table.specs.Program.{names}
 use Rattle.table.specs.WellFormed.{In}
-use Rattle.table.specs.Laws.Lists.{names_in}
+use Rattle.table.proofs.Laws.Lists.{names_in}
 use Rattle.table.specs.Program.{Program, empty, params, body, locals}
 use Rattle.table.specs.Encoding.{encode, encode_bodies, counts, WithinLimits}
 use Rattle.rules.specs.Verdict.{Reached, then}
 use Rattle.canon.specs.Canonical.{order, position, recalled, resolved, rewritten, canonical}
-use Rattle.table.specs.Laws.Formed.{well_formed}
-use Rattle.rules.specs.Laws.Verdict.{reached_within}
-use Rattle.canon.specs.Laws.Order.{order_reached, reached_order}
-use Rattle.canon.specs.Laws.Rewrite.{recalled-agree}
-use Rattle.canon.specs.Laws.Canonical.{calls_resolved}
+use Rattle.table.proofs.Laws.Formed.{well_formed}
+use Rattle.rules.proofs.Laws.Verdict.{reached_within}
+use Rattle.canon.proofs.Laws.Order.{order_reached, reached_order}
+use Rattle.canon.proofs.Laws.Rewrite.{recalled_agree}
+use Rattle.canon.proofs.Laws.Canonical.{calls_resolved}
 use Rattle.order.specs.Items.{items_of}
 use Rattle.rewrite.specs.Writing.{written_all}
-use Rattle.rewrite.specs.Laws.Written.{At, written-code, number}
+use Rattle.rewrite.specs.Laws.Written.{At, written_code, number}
 use Rattle.rewrite.specs.Writing.{at_start, itself16}
 use Rattle.writer.specs.Parts.{texts}
 
@@ -66,9 +66,9 @@ module _ (P : Program) (within : WithinLimits P) (ps : List ℕ)
       let l = reached_within P ok r w in
       let f = within.fits r l in
       let k = params P r in
-      (written-code P k ps 0 0 END (names k) (λ x. x) (k + 1) (body P r) f.scoped f.numbered (at_start k)
+      (written_code P k ps 0 0 END (names k) (λ x. x) (k + 1) (body P r) f.scoped f.numbered (at_start k)
       (at_head_lem r l)).0
-      ∙ ap (encode END) (recalled-agree (number P k ps) (position (order P)) (resolved (get_or P r empty))
+      ∙ ap (encode END) (recalled_agree (number P k ps) (position (order P)) (resolved (get_or P r empty))
       (λ q h. placed q (reached_order P ok q (then w (calls_resolved (get_or P r empty) q h)))))
 
   texts_some : (rs : List ℕ) → ((r : ℕ) → In r rs → In r (order P))

@@ -1,3 +1,4 @@
+pub mod Laws
 pub mod TableLaws
 pub mod CanonLaws
 pub mod WriteLaws

@@ -7,7 +7,7 @@ use native.Mathlib.Omega.{arith}
 use lib.ListN.{length, get_or, take, length-append}
 use lib.Seq.{take-suc, take_all}
 use Rattle.table.specs.Constants.{END}
-use Rattle.table.specs.Laws.Lists.{getD-in}
+use Rattle.table.proofs.Laws.Lists.{get_or_in}
 use Rattle.table.specs.Program.{Program, params, body}
 use Rattle.order.specs.Standing.{HoldsAt}
 use Rattle.order.specs.Items.{items_of, flat, body_sizes}
@@ -21,7 +21,7 @@ use Rattle.writer.specs.Parts.{texts, CanWrite, BodiesWritten}
 use Rattle.order.specs.Laws.Standing.{bytes_there}
 use Rattle.rewrite.specs.Laws.Sizes.{all_size}
 use Rattle.order.specs.Laws.Program.{items_here, rest, few_routines, few_bytes, params_few}
-use Rattle.table.specs.Laws.Sections.{routines, params_at}
+use Rattle.table.proofs.Laws.Sections.{routines, params_at}
 
 -- one entry more
 one_more : (l : List ℕ) (i x : ℕ) → i < length l → x ≡ get_or l i 0 → take (i + 1) l ≡ take i l ++ (x ∷ [])
@@ -73,7 +73,7 @@ module _ (ks s starts ps rs : List ℕ) (p : ℕ) (before : List ℕ) (can : Can
   module _ (now : List ℕ) (i q : ℕ) (g : Putting ks s starts ps rs p before now i q) (lt : i < length rs)
       (r : ℕ) (here : r ≡ get_or rs i 0) where
     below : r < length can.program
-    below = can.below r (rw here (getD-in rs i lt).0)
+    below = can.below r (rw here (get_or_in rs i lt).0)
 
     pub start_here : r < length starts
     start_here = let a = below in let b = can.holds.starts_long in omega arith

@@ -9,10 +9,10 @@ use Rattle.table.specs.WellFormed.{In}
 use Rattle.table.specs.Program.{Program, params}
 use Rattle.table.specs.Encoding.{encode_bodies, counts, encode_table}
 use Rattle.canon.specs.Canonical.{position, canonical, canonical_table}
-use Rattle.table.specs.Laws.Formed.{well_formed}
-use Rattle.rules.specs.Laws.Verdict.{reached_within}
-use Rattle.canon.specs.Laws.Order.{order_reached}
-use Rattle.canon.specs.Laws.Limits.{canonical_within, length_canonical}
+use Rattle.table.proofs.Laws.Formed.{well_formed}
+use Rattle.rules.proofs.Laws.Verdict.{reached_within}
+use Rattle.canon.proofs.Laws.Order.{order_reached}
+use Rattle.canon.proofs.Laws.Limits.{canonical_within, length_canonical}
 use Rattle.order.specs.declared.Order.{Order}
 use Rattle.writer.specs.declared.Written.TheVariants.{Length, Refused}
 use Rattle.order.specs.Standing.{HoldsAt, HeldAt}
@@ -25,7 +25,7 @@ use Rattle.order.specs.Ordering.{list_of, Ordered}
 use Rattle.writer.specs.Parts.{texts, CanCount, CanWrite, BodiesWritten, Ready}
 use Rattle.writer.specs.Parts.{TableWritten}
 use Rattle.order.proofs.OrderLaws.{list_length}
-use Rattle.table.specs.Laws.Sections.{routines, params_at}
+use Rattle.table.proofs.Laws.Sections.{routines, params_at}
 use Rattle.writer.proofs.TableLaws.{texts_size}
 use Rattle.writer.proofs.CanonLaws.{texts_canonical, counts_canonical}
 

@@ -1,5 +1,5 @@
 // The writer of canonical tables: one way to write a table.
-ghost use Rattle.table.specs.Laws.Sections.{Held, AcceptedAs};
+ghost use Rattle.table.proofs.Laws.Sections.{Held, AcceptedAs};
 ghost use Rattle.append.specs.Appends.{Appends};
 ghost use Rattle.order.specs.Standing.{HeldAt};
 ghost use Rattle.writer.specs.Answer.{Writes, WritesAs, Fits};

@@ -2,11 +2,11 @@
 use mathlib.Core.Path.{sym, ◌∙◌}
 use native.Mathlib.Omega.{arith}
 use Rattle.table.specs.Check.{check_table}
-use Rattle.table.specs.Laws.Accepts.{refused_of}
-use Rattle.table.specs.Laws.Refusals.{refusals}
+use Rattle.table.proofs.Laws.Accepts.{refused_of}
+use Rattle.table.proofs.Laws.Refusals.{refusals}
 use Rattle.table.proofs.check.Reads as check-reads
 use Rattle.analysis.proofs.judge.Reads as judge-reads
-use Rattle.table.specs.Laws.Sections.{AcceptedAs, accepted_as}
+use Rattle.table.proofs.Laws.Sections.{AcceptedAs, accepted_as}
 use Rattle.analysis.proofs.AnalyseLaws.{refused_by_check, refused_for_buffer, judged_as}
 use borrow.Author.Rules.{rules}
 use Rattle.analysis.proofs.analyse.Statement.{statement}

@@ -1,7 +1,7 @@
 -- `judge` meets its contract: the bodies are surveyed, and then judged.
 use mathlib.Core.Path.{refl}
 use native.Mathlib.Omega.{arith}
-use Rattle.table.specs.Laws.Sections.{few}
+use Rattle.table.proofs.Laws.Sections.{few}
 use Rattle.settle.specs.Laws.Surveys.{cut_surveyed}
 use borrow.Author.Rules.{rules}
 use Rattle.analysis.proofs.judge.Statement.{statement}

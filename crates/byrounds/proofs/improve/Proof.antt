@@ -1,6 +1,6 @@
 -- `improve` meets its contract: what is worked out in the body from the rows of the round before is added to the row.
 use native.Mathlib.Omega.{arith}
-use Rattle.table.specs.Laws.Sections.{routines, few_params}
+use Rattle.table.proofs.Laws.Sections.{routines, few_params}
 use Rattle.settle.specs.Laws.Improving.{improves}
 use borrow.Author.Rules.{rules}
 use Rattle.byrounds.proofs.improve.Statement.{statement}

@@ -2,7 +2,7 @@
 use borrow.Author.Rules.{rules}
 use mathlib.Core.Path.{sym}
 use lib.Seq.{length-take-le}
-use Rattle.writer.specs.Laws.Fits.{small_length}
+use Rattle.writer.proofs.Laws.Fits.{small_length}
 use Rattle.canonical.proofs.answer.Statement.{statement}
 use Rattle.canonical.proofs.answer.Tie as tie
 

@@ -10,8 +10,8 @@ use Rattle.table.specs.Check.{accepted, check_table}
 use Rattle.append.specs.Appends.{Appends}
 use Rattle.rounds.specs.Rounds.{Rounds, Acyclic}
 use Rattle.rounds.specs.Chain.{chain, chain_table}
-use Rattle.rounds.specs.Laws.ChainRounds.{chain_long, chain_acyclic, chain_rounds}
-use Rattle.rounds.specs.Laws.ChainTable.{chain_accepted}
+use Rattle.rounds.proofs.Laws.ChainRounds.{chain_long, chain_acyclic, chain_rounds}
+use Rattle.rounds.proofs.Laws.ChainTable.{chain_accepted}
 use Rattle.dearest.specs.Written.{Written}
 use Rattle.dearest.specs.Laws.Parts.{table_long}
 

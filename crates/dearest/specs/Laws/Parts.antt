@@ -4,12 +4,12 @@ use Rattle.std.proofs.Common.{sym, ap, ◌∙◌, inl, inr, append_assoc, append
 use Rattle.table.specs.Constants.{most_routines, END}
 use Rattle.table.specs.Program.{Routine, Program, params, body}
 use Rattle.table.specs.Encoding.{encode, encode_bodies, counts, two_bytes}
-use Rattle.table.specs.Laws.Sound.{counts_length, counts_params}
+use Rattle.table.proofs.Laws.Sound.{counts_length, counts_params}
 use Rattle.append.specs.Appends.{Appends}
 use Rattle.append.specs.Laws.Appending.{then, equal_text, one_more, all}
 use Rattle.rounds.specs.Chain.{params_of, passing, opposing, chain, chain_table}
-use Rattle.rounds.specs.Laws.ChainRounds.{chain_long, link, last, params_at}
-use Rattle.rounds.specs.Laws.ChainTable.{bodies_long}
+use Rattle.rounds.proofs.Laws.ChainRounds.{chain_long, link, last, params_at}
+use Rattle.rounds.proofs.Laws.ChainTable.{bodies_long}
 use Rattle.dearest.specs.Written.{Written}
 
 -- how many parameters a routine has

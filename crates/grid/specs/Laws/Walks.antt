@@ -6,7 +6,7 @@ use Rattle.std.proofs.Math.Decide.{ℕ_discrete}
 use Rattle.rules.specs.Label.{Label, own, forked, unknown, several, combine}
 use Rattle.rules.specs.Model.{Kept}
 use Rattle.rules.specs.Derived.{Closed, given, follows}
-use Rattle.rules.specs.Laws.Combine.{with_several, other_fork, same_fork}
+use Rattle.rules.proofs.Laws.Combine.{with_several, other_fork, same_fork}
 use Rattle.grid.specs.Rows.{Rel, Walk, one, more, Star}
 
 -- the names joined by a given pair of the label, or of any label
@@ -105,16 +105,16 @@ module _ (G : ℕ → ℕ → Label → Type 0) where
       (ending l p)
 
   -- what two pairs say gives what the pair that follows says
-  says-follows :
+  says_follows :
       (l m : Label) (a b c : ℕ) → Says G l a b → Says G m b c → Kept a c (combine l m)
       → Says G (combine l m) a c
-  says-follows own own a b c p q (inl n) = (n, walk_then p.1 q.1)
-  says-follows own own a b c p q (inr e) = let z : ◌≡◌ {A = ℕ} 0 1 = cc in absurd (omega arith)
-  says-follows own (forked j) a b c p q k = mixes own (forked j) a b c refl p q
-  says-follows own unknown a b c p q k = mixes own unknown a b c refl p q
-  says-follows own several a b c p q k = mixes own several a b c refl p q
-  says-follows (forked i) own a b c p q k = mixes (forked i) own a b c refl p q
-  says-follows (forked i) (forked j) a b c p q k = go (ℕ_discrete i j)
+  says_follows own own a b c p q (inl n) = (n, walk_then p.1 q.1)
+  says_follows own own a b c p q (inr e) = let z : ◌≡◌ {A = ℕ} 0 1 = cc in absurd (omega arith)
+  says_follows own (forked j) a b c p q k = mixes own (forked j) a b c refl p q
+  says_follows own unknown a b c p q k = mixes own unknown a b c refl p q
+  says_follows own several a b c p q k = mixes own several a b c refl p q
+  says_follows (forked i) own a b c p q k = mixes (forked i) own a b c refl p q
+  says_follows (forked i) (forked j) a b c p q k = go (ℕ_discrete i j)
     where
       same : i ≡ j → combine (forked i) (forked j) ≡ forked i
       same e = rw (← e) (same_fork i)
@@ -126,10 +126,10 @@ module _ (G : ℕ → ℕ → Label → Type 0) where
       go : Dec (i ≡ j) → Says G (combine (forked i) (forked j)) a c
       go (yes e) = rw (same e) (joined e (rw (same e) at k))
       go (no n) = rw (other_fork i j n) (mixes (forked i) (forked j) a b c (other_fork i j n) p q)
-  says-follows (forked i) unknown a b c p q k = mixes (forked i) unknown a b c refl p q
-  says-follows (forked i) several a b c p q k = mixes (forked i) several a b c refl p q
-  says-follows unknown m a b c p q k = mixes unknown m a b c refl p q
-  says-follows several m a b c p q k = mixes several m a b c refl p q
+  says_follows (forked i) unknown a b c p q k = mixes (forked i) unknown a b c refl p q
+  says_follows (forked i) several a b c p q k = mixes (forked i) several a b c refl p q
+  says_follows unknown m a b c p q k = mixes unknown m a b c refl p q
+  says_follows several m a b c p q k = mixes several m a b c refl p q
 
   -- a given pair says what its label says
   says_given : (l : Label) {a b : ℕ} → G a b l → Kept a b l → Says G l a b
@@ -144,7 +144,7 @@ module _ (G : ℕ → ℕ → Label → Type 0) where
   pub says : ((a b : ℕ) (l : Label) → G a b l → Kept a b l) → {a b : ℕ} {l : Label} → Closed G a b l → Says G l a b
   says kept (given {a = a} {b = b} {l = l} w) = says_given l w (kept a b l w)
   says kept (follows {a = a} {b = b} {c = c} {l = l} {m = m} p q e k) =
-      rw e (says-follows l m a b c (says kept p) (says kept q) (rw e at k))
+      rw e (says_follows l m a b c (says kept p) (says kept q) (rw e at k))
 
   -- a walk of one named label is a pair
   pub walked : (l : Label) → combine l l ≡ l → {a b : ℕ} → Walk (Of G l) a b → a ≢ b → Closed G a b l

@@ -1,5 +1,6 @@
 -- Bytes of a list from an offset on, and what closes a code.
-use Rattle.std.specs.Prelude.{◌≡◌, refl, Bool, true, false, cond, List, [], ◌∷◌, ◌++◌, ℕ, zero, suc, ◌+◌, ◌<◌, length, get_or, drop}
+use Rattle.std.specs.Prelude.{◌≡◌, refl, Bool, true, false, cond, List, [], ◌∷◌, ◌++◌, ℕ, zero, suc, ◌+◌, ◌<◌}
+use Rattle.std.specs.Prelude.{length, get_or, drop}
 use Rattle.std.proofs.Common.{arith}
 use Rattle.table.specs.Constants.{Op, END, OTHER, code}
 use Rattle.links.specs.Lies.{closer}

@@ -1,13 +1,13 @@
 -- The bodies that are linked so far: one more, and all of them.
-use Rattle.std.specs.Prelude.{◌≡◌, refl, false, not, List, [], ◌∷◌, ℕ, suc, ◌+◌, ◌-◌, ◌<◌, ◌≤◌, length, get_or, set, drop}
+use Rattle.std.specs.Prelude.{◌≡◌, refl, false, not, List, [], ◌∷◌, ℕ, suc, ◌+◌, ◌<◌, ◌≤◌, length, get_or, set, drop}
 use Rattle.std.proofs.Common.{sym, ◌∙◌, ap, subst, arith, add-one, length-set, get_or-set_same, get_or-set_other, eq-eqb}
 use Rattle.std.proofs.Math.Decide.{ℕ_discrete}
 use Rattle.table.specs.Constants.{most_bytes, most_routines, most_params}
 use Rattle.table.specs.Program.{Program, body, params}
 use Rattle.table.specs.Encoding.{encode_bodies, counts}
-use Rattle.table.specs.Laws.Sound.{counts_params}
-use Rattle.table.specs.Laws.Within.{fine, bodies_from}
-use Rattle.table.specs.Laws.Sections.{Holds, routines, Held, few}
+use Rattle.table.proofs.Laws.Sound.{counts_params}
+use Rattle.table.proofs.Laws.Within.{fine, bodies_from}
+use Rattle.table.proofs.Laws.Sections.{Holds, routines, Held, few}
 use Rattle.links.specs.Laws.Named.{named}
 use Rattle.links.specs.Lies.{section, Lies}
 use Rattle.links.specs.Walks.{going_by, begun, Ends, Walks, Linked}

@@ -5,8 +5,8 @@ use Rattle.table.specs.Constants.{most_names, most_params}
 use Rattle.table.specs.Program.{Code, end, new, lock, fork, choice, call, mirror, names, locals}
 use Rattle.table.specs.WellFormed.{In}
 use Rattle.table.specs.Encoding.{Numbered}
-use Rattle.table.specs.Laws.Lists.{names_low}
-use Rattle.table.specs.Laws.Fine.{Calling, Uses, Fine}
+use Rattle.table.proofs.Laws.Lists.{names_low}
+use Rattle.table.proofs.Laws.Fine.{Calling, Uses, Fine}
 
 -- every name that an item has is below 16, and each call is of a routine of ks, with a name for each parameter
 abbrev pub Named : List ℕ → Code → Type 0

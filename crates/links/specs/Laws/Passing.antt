@@ -1,10 +1,12 @@
 -- The walk over a code that stands in the section leaves its links as `Lies` has them.
-use Rattle.std.specs.Prelude.{◌≡◌, refl, Bool, true, false, cond, not, ◌⊎◌, List, ◌∷◌, ◌++◌, ℕ, ◌+◌, ◌-◌, ◌<◌, ◌≤◌, eqb, length, get_or, set, drop}
-use Rattle.std.proofs.Common.{sym, ◌∙◌, ap, subst, inl, inr, append_assoc, arith, length-set, get_or-set_same, get_or-set_other, ne_eqb}
+use Rattle.std.specs.Prelude.{◌≡◌, refl, Bool, true, false, cond, not, ◌⊎◌, List, ◌∷◌, ◌++◌, ℕ, ◌+◌, ◌-◌, ◌<◌}
+use Rattle.std.specs.Prelude.{◌≤◌, eqb, length, get_or, set, drop}
+use Rattle.std.proofs.Common.{sym, ◌∙◌, ap, subst, inl, inr, append_assoc, arith, length-set, get_or-set_same}
+use Rattle.std.proofs.Common.{get_or-set_other, ne_eqb}
 use Rattle.table.specs.Constants.{Op, END, NEW, LOCK, FORK, CHOICE, OTHER, CALL, MIRROR, code}
 use Rattle.table.specs.Constants.{most_names, most_open, most_bytes}
 use Rattle.table.specs.Program.{Code, end, new, lock, fork, choice, call, mirror, locals, forks}
-use Rattle.table.specs.Laws.Lists.{getD-in}
+use Rattle.table.proofs.Laws.Lists.{get_or_in}
 use Rattle.table.specs.Encoding.{encode, Numbered, depth}
 use Rattle.links.specs.Laws.Named.{Named}
 use Rattle.links.specs.Lies.{Section, section, closer, Lies}
@@ -14,10 +16,15 @@ use Rattle.links.specs.Walks.{done, step}
 use Rattle.links.specs.Laws.Bytes.{op_for, closer_is, drop_inside, drop_here, drop_next, drop_past}
 use Rattle.links.specs.Laws.Bytes.{drop_entry}
 
+-- one path after another, by the first
+then_from : (ks s : List ℕ) (w v : Walk) (l m : List ℕ) (u : Walk) (n : List ℕ) → Path ks s v m u n → Path ks s w l v m
+    → Path ks s w l u n
+then_from ks s w v l m u n (done u' n' e f) p = rw (e, f) p
+then_from ks s w v l m u n (step u' t n' o g can e f q) p = step u t n o g can e f (then_from ks s w v l m t o q p)
+
 -- one path after another
 pub then : (ks s : List ℕ) (w v u : Walk) (l m n : List ℕ) → Path ks s v m u n → Path ks s w l v m → Path ks s w l u n
-then ks s w v u l m n (done u' n' e f) p = rw (e, f) p
-then ks s w v u l m n (step u' t n' o g can e f q) p = step u t n o g can e f (then ks s w v t l m o q p)
+then ks s w v u l m n q p = then_from ks s w v l m u n q p
 
 -- the links are the same from an offset on, below another
 abbrev pub Same : ℕ → ℕ → List ℕ → List ℕ → Type 0
@@ -690,7 +697,7 @@ module _ (ks s heads bs : List ℕ) where
               (λ j q. (
                 drop_entry s (w.at + 2) xs (encode (op_for o) c ++ rest) j bytes2 q,
                 f.named.3 (get_or xs j 0)
-                    (getD-in xs j q).0,
+                    (get_or_in xs j q).0,
               )),
               p.lies n (λ j a b. same j (omega (arith, a)) b),
             );

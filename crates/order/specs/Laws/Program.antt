@@ -7,9 +7,9 @@ use Rattle.table.specs.Program.{Code, end, new, lock, fork, choice, call, mirror
 use Rattle.table.specs.Program.{locals, forks}
 use Rattle.table.specs.WellFormed.{In, Scoped}
 use Rattle.table.specs.Encoding.{encode, encode_bodies, counts, Numbered}
-use Rattle.table.specs.Laws.Lists.{names_in}
-use Rattle.table.specs.Laws.Sections.{routines}
-use Rattle.table.specs.Laws.Sound.{counts_length, counts_params}
+use Rattle.table.proofs.Laws.Lists.{names_in}
+use Rattle.table.proofs.Laws.Sections.{routines}
+use Rattle.table.proofs.Laws.Sound.{counts_length, counts_params}
 use Rattle.settle.specs.Bodies.{start_of}
 use Rattle.settle.specs.Laws.Starts.{body_at, start_next}
 use Rattle.order.specs.Items.{Item, items_of}
@@ -34,47 +34,47 @@ closes_other = ((λ e. omega arith), (λ e. omega arith), (λ e. omega arith), (
 
 module _ (P : Program) (ks : List ℕ) (are : ks ≡ counts P) (k : ℕ) where
   -- the items of a code, and then others, are good
-  good-items :
+  good_items :
       (m j : ℕ) (z : Op) (s : List ℕ) (c : Code) (us : List Item) → Closes z → Scoped P k s c → Numbered k m j c
       → ((x : ℕ) → In x s → x < 16) → k + m + locals c < 16 → AllGood ks (k + m + locals c + 1) us
       → AllGood ks (k + m + 1) (items_of z c ++ us)
-  good-items m j z s end us cl sc w low few g =
+  good_items m j z s end us cl sc w low few g =
       let e : k + m + 0 + 1 ≡ k + m + 1 = omega arith in (cl, rw e at g)
-  good-items m j z s (new x c) us cl sc w low few g =
+  good_items m j z s (new x c) us cl sc w low few g =
       let e : k + (m + 1) + 1 ≡ k + m + 1 + 1 = omega arith in
       let f : k + m + (1 + locals c) + 1 ≡ k + (m + 1) + locals c + 1 = omega arith in (
         omega arith,
-        rw e at (good-items (m + 1) j z (x ∷ s) c us cl sc.1 w.1
+        rw e at (good_items (m + 1) j z (x ∷ s) c us cl sc.1 w.1
             (λ y i. elim i [ inl p ↦ (let q : x ≡ k + m + 1 = w.0 in omega arith) | inr h ↦ low y h ]) (omega arith)
             (rw f at g)),
       )
-  good-items m j z s (mirror x y c) us cl sc w low few g =
+  good_items m j z s (mirror x y c) us cl sc w low few g =
       let e : k + (m + 1) + 1 ≡ k + m + 1 + 1 = omega arith in
       let f : k + m + (1 + locals c) + 1 ≡ k + (m + 1) + locals c + 1 = omega arith in (
         (omega arith, low y sc.1),
-        rw e at (good-items (m + 1) j z (x ∷ s) c us cl sc.2 w.1
+        rw e at (good_items (m + 1) j z (x ∷ s) c us cl sc.2 w.1
             (λ v i. elim i [ inl p ↦ (let q : x ≡ k + m + 1 = w.0 in omega arith) | inr h ↦ low v h ]) (omega arith)
             (rw f at g)),
       )
-  good-items m j z s (lock x c d) us cl sc w low few g =
+  good_items m j z s (lock x c d) us cl sc w low few g =
       let f : k + m + (locals c + locals d) + 1 ≡ k + (m + locals c) + locals d + 1 = omega arith in
       let e : k + (m + locals c) + 1 ≡ k + m + locals c + 1 = omega arith in (
         low x sc.0,
         rw (append_assoc (items_of END c) (items_of z d) us)
-            (good-items m j END s c (items_of z d ++ us) closes_end sc.1 w.0 low (omega arith)
-            (rw e at (good-items (m + locals c) (j + forks c) z s d us cl sc.2 w.1 low (omega arith)
+            (good_items m j END s c (items_of z d ++ us) closes_end sc.1 w.0 low (omega arith)
+            (rw e at (good_items (m + locals c) (j + forks c) z s d us cl sc.2 w.1 low (omega arith)
             (rw f at g)))),
       )
-  good-items m j z s (fork i c d) us cl sc w low few g =
+  good_items m j z s (fork i c d) us cl sc w low few g =
       let f : k + m + (locals c + locals d) + 1 ≡ k + (m + locals c) + locals d + 1 = omega arith in
       let e : k + (m + locals c) + 1 ≡ k + m + locals c + 1 = omega arith in (
         ((λ q. omega arith), (λ q. omega arith), (λ q. omega arith), (λ q. omega arith)),
         rw (append_assoc (items_of END c) (items_of z d) us)
-            (good-items m (j + 1) END s c (items_of z d ++ us) closes_end sc.0 w.1 low (omega arith)
-            (rw e at (good-items (m + locals c) (j + 1 + forks c) z s d us cl sc.1 w.2 low (omega arith)
+            (good_items m (j + 1) END s c (items_of z d ++ us) closes_end sc.0 w.1 low (omega arith)
+            (rw e at (good_items (m + locals c) (j + 1 + forks c) z s d us cl sc.1 w.2 low (omega arith)
             (rw f at g)))),
       )
-  good-items m j z s (choice a b c) us cl sc w low few g =
+  good_items m j z s (choice a b c) us cl sc w low few g =
       let f : k + m + (locals a + (locals b + locals c)) + 1 ≡ k + (m + locals a + locals b) + locals c + 1 = omega
       arith in
       let e : k + (m + locals a + locals b) + 1 ≡ k + (m + locals a) + locals b + 1 = omega arith in
@@ -85,19 +85,19 @@ module _ (P : Program) (ks : List ℕ) (are : ks ≡ counts P) (k : ℕ) where
           append_assoc (items_of END b) (items_of z c)
               us,
         )
-            (good-items m j OTHER s a (items_of END b ++ (items_of z c ++ us)) closes_other sc.0 w.0 low
+            (good_items m j OTHER s a (items_of END b ++ (items_of z c ++ us)) closes_other sc.0 w.0 low
             (omega arith)
-            (rw h at (good-items (m + locals a) (j + forks a) END s b (items_of z c ++ us) closes_end sc.1 w.1 low
+            (rw h at (good_items (m + locals a) (j + forks a) END s b (items_of z c ++ us) closes_end sc.1 w.1 low
             (omega arith)
-            (rw e at (good-items (m + locals a + locals b) (j + forks a + forks b) z s c us cl sc.2 w.2 low
+            (rw e at (good_items (m + locals a + locals b) (j + forks a + forks b) z s c us cl sc.2 w.2 low
             (omega arith)
             (rw f at g)))))),
       )
-  good-items m j z s (call r xs c) us cl sc w low few g =
+  good_items m j z s (call r xs c) us cl sc w low few g =
       let n = counts_length P in
       let l = sc.0 in (
         (rw are (omega arith), rw are (sc.1 ∙ sym (counts_params P r)), (λ x i. low x (sc.2 x i))),
-        good-items m j z s c us cl sc.3 w low few g,
+        good_items m j z s c us cl sc.3 w low few g,
       )
 
 module _ (P : Program) (ks s starts : List ℕ) (h : HoldsAt P ks s starts) where
@@ -140,7 +140,7 @@ module _ (P : Program) (ks s starts : List ℕ) (h : HoldsAt P ks s starts) wher
           content = rw e (ap (drop (start_of P r)) h.holds.bytes_are ∙ body_at P r l
               ∙ ap (λ (u : List ℕ). u ++ rest) (sym (flat_items END (body P r))));
           good = rw z at (rw (append-nil (items_of END (body P r)))
-              at (good-items P ks h.holds.params_are k 0 0 END (names k) (body P r) [] closes_end f.scoped
+              at (good_items P ks h.holds.params_are k 0 0 END (names k) (body P r) [] closes_end f.scoped
               f.numbered
               (λ x i. let n = names_in k x i in let a = n.1 in let b = n.2 in let p = f.few_params in omega arith)
               (let p = f.few_params in let q = f.few_locals in omega arith) tt));

@@ -6,7 +6,7 @@ use borrow.Author.Tests.{ne_eqb}
 use Rattle.std.proofs.Math.ListN.{get_or-append}
 use Rattle.std.proofs.Math.Seq.{take-append_seam}
 use Rattle.std.proofs.Math.Decide.{ℕ_discrete}
-use Rattle.table.specs.Laws.Lists.{getD-in}
+use Rattle.table.proofs.Laws.Lists.{get_or_in}
 use Rattle.pairs.specs.Walks.{Passable, past_item}
 use Rattle.order.specs.Items.{Item, mark, making, mirroring, locking, calling, item_bytes}
 use Rattle.order.specs.Standing.{ItemAt, SomeItem, AnyItem, NameAt, CallAt, call_here, item_at}
@@ -108,7 +108,7 @@ at_call ks s at old ps h (calling r xs, l, i) e =
       whole = rw (p.0, sym n) (let c = p.1 in omega arith);
       low = λ j k. let k' : j < length xs = rw (p.0, sym n) at k in
           rw (byte_at s (at + 2) (xs ++ l) j q, get_or-append xs l 0 j k')
-          (g.2 (get_or xs j 0) (getD-in xs j k').0);
+          (g.2 (get_or xs j 0) (get_or_in xs j k').0);
     }
 
 -- the item by its code

@@ -6,8 +6,8 @@ use native.Mathlib.Omega.{arith}
 use lib.ListN.{length}
 use borrow.Author.Rules.{rules}
 use Rattle.grid.specs.Grid.{Square}
-use Rattle.grid.specs.Laws.Square.{square_of}
-use Rattle.table.specs.Laws.Fine.{IsBody}
+use Rattle.grid.proofs.Laws.Square.{square_of}
+use Rattle.table.proofs.Laws.Fine.{IsBody}
 use Rattle.pairs.specs.Walks.{Walk, walk_of}
 use Rattle.pairs.proofs.Recording.{Recording, record_start, record_there, record_entries, record_ready}
 use Rattle.pairs.proofs.Recording.{record_lock_ready, record_thread, record_call_ready, record_lock}

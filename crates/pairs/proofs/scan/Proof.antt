@@ -4,7 +4,7 @@ use Prim.Native.Nat.{ℕ, ◌-◌, ◌≤◌}
 use native.Mathlib.Omega.{arith}
 use lib.ListN.{length}
 use borrow.Author.Rules.{rules}
-use Rattle.table.specs.Laws.Fine.{IsBody}
+use Rattle.table.proofs.Laws.Fine.{IsBody}
 use Rattle.pairs.proofs.Scanning.{Scanning, scan_start, scan_there, scan_pass, scan_level, scan_less, scan_call}
 use Rattle.pairs.proofs.Scanning.{scan_other, scan_end}
 use Rattle.pairs.proofs.walk.over.Reads as over_reads

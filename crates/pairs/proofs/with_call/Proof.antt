@@ -1,6 +1,6 @@
 -- `with_call` meets its contract: `|` adds the bit of q.
 use borrow.Author.Rules.{rules}
-use Rattle.grid.specs.Laws.Masks.{bits_or, bits_self}
+use Rattle.grid.proofs.Laws.Masks.{bits_or, bits_self}
 use Rattle.pairs.proofs.Scanning.{bit_wide}
 use Rattle.pairs.proofs.with_call.Statement.{statement}
 use Rattle.pairs.proofs.with_call.Tie as tie

@@ -192,40 +192,40 @@ module _ (P : Program) (k : ℕ) (ps : List ℕ) where
   abbrev pub text : Op → (ℕ → ℕ) → ℕ → Code → List ℕ
   text z σ n c = encode z (recalled number (plain σ n c))
 
-  pub written-code :
+  pub written_code :
       (m j : ℕ) (z : Op) (s : List ℕ) (σ : ℕ → ℕ) (n : ℕ) (c : Code) → Scoped P k s c → Numbered k m j c
       → (e : Known) → At m (locals c) s σ n e → Writes (items_of z c) (locals c) (news c) (text z σ n c) e
-  written-code m j z s σ n end sc w e a = (refl, later_self e)
-  written-code m j z s σ n (new x c) sc w e a =
+  written_code m j z s σ n end sc w e a = (refl, later_self e)
+  written_code m j z s σ n (new x c) sc w e a =
       made m (locals c) (news c) n x s σ (items_of z c) (text z (bind x n σ) (n + 1) c) e w.0 a
-      (written-code (m + 1) j z (x ∷ s) (bind x n σ) (n + 1) c sc.1 w.1)
-  written-code m j z s σ n (mirror x y c) sc w e a =
+      (written_code (m + 1) j z (x ∷ s) (bind x n σ) (n + 1) c sc.1 w.1)
+  written_code m j z s σ n (mirror x y c) sc w e a =
       mirrored m (locals c) (news c) n x y s σ (items_of z c) (text z (bind x (σ y) σ) n c) e w.0 sc.1 a
-      (written-code (m + 1) j z (x ∷ s) (bind x (σ y) σ) n c sc.2 w.1)
-  written-code m j z s σ n (lock x c d) sc w e a =
+      (written_code (m + 1) j z (x ∷ s) (bind x (σ y) σ) n c sc.2 w.1)
+  written_code m j z s σ n (lock x c d) sc w e a =
       locked x (σ x) (locals c + locals d) (news c + news d) (items_of END c ++ items_of z d)
       (text END σ n c ++ text z σ (n + news c) d) e (a.knows.name x sc.0)
       (seq m (locals c) (locals d) (news c) (news d) n s σ (items_of END c) (items_of z d) (text END σ n c)
-      (text z σ (n + news c) d) (written-code m j END s σ n c sc.1 w.0)
-      (written-code (m + locals c) (j + forks c) z s σ (n + news c) d sc.2 w.1) e a)
-  written-code m j z s σ n (fork i c d) sc w e a =
+      (text z σ (n + news c) d) (written_code m j END s σ n c sc.1 w.0)
+      (written_code (m + locals c) (j + forks c) z s σ (n + news c) d sc.2 w.1) e a)
+  written_code m j z s σ n (fork i c d) sc w e a =
       marked (code FORK) (locals c + locals d) (news c + news d) (items_of END c ++ items_of z d)
       (text END σ n c ++ text z σ (n + news c) d) e
       (seq m (locals c) (locals d) (news c) (news d) n s σ (items_of END c) (items_of z d) (text END σ n c)
-      (text z σ (n + news c) d) (written-code m (j + 1) END s σ n c sc.0 w.1)
-      (written-code (m + locals c) (j + 1 + forks c) z s σ (n + news c) d sc.1 w.2) e a)
-  written-code m j z s σ n (choice u v c) sc w e a =
+      (text z σ (n + news c) d) (written_code m (j + 1) END s σ n c sc.0 w.1)
+      (written_code (m + locals c) (j + 1 + forks c) z s σ (n + news c) d sc.1 w.2) e a)
+  written_code m j z s σ n (choice u v c) sc w e a =
       marked (code CHOICE) (locals u + (locals v + locals c)) (news u + (news v + news c))
       (items_of OTHER u ++ (items_of END v ++ items_of z c))
       (text OTHER σ n u ++ (text END σ (n + news u) v ++ text z σ (n + news u + news v) c)) e
       (seq m (locals u) (locals v + locals c) (news u) (news v + news c) n s σ (items_of OTHER u)
       (items_of END v ++ items_of z c) (text OTHER σ n u) (text END σ (n + news u) v ++ text z σ (n + news u + news v) c)
-      (written-code m j OTHER s σ n u sc.0 w.0)
+      (written_code m j OTHER s σ n u sc.0 w.0)
       (seq (m + locals u) (locals v) (locals c) (news v) (news c) (n + news u) s σ (items_of END v) (items_of z c)
       (text END σ (n + news u) v) (text z σ (n + news u + news v) c)
-      (written-code (m + locals u) (j + forks u) END s σ (n + news u) v sc.1 w.1)
-      (written-code (m + locals u + locals v) (j + forks u + forks v) z s σ (n + news u + news v) c sc.2 w.2)) e
+      (written_code (m + locals u) (j + forks u) END s σ (n + news u) v sc.1 w.1)
+      (written_code (m + locals u + locals v) (j + forks u + forks v) z s σ (n + news u + news v) c sc.2 w.2)) e
       a)
-  written-code m j z s σ n (call r xs c) sc w e a =
+  written_code m j z s σ n (call r xs c) sc w e a =
       calls r (locals c) (news c) xs (map σ xs) (items_of z c) (text z σ n c) e
-      (names_known s σ e a.knows xs sc.2) (written-code m j z s σ n c sc.3 w e a)
+      (names_known s σ e a.knows xs sc.2) (written_code m j z s σ n c sc.3 w e a)

@@ -1,6 +1,6 @@
 -- `with_cell` meets its contract: equal names and the mask 0 add nothing, and else the byte of the cell is added.
 use borrow.Author.Rules.{rules}
-use Rattle.rows.proofs.Adding.{same_name, no_cell, cell-of-byte}
+use Rattle.rows.proofs.Adding.{same_name, no_cell, cell_of_byte}
 use Rattle.rows.proofs.with_cell.Statement.{statement}
 use Rattle.rows.proofs.with_cell.Tie as tie
 
@@ -24,7 +24,7 @@ returns-3 : tie.Need-returns-3
 returns-3 c =
     let s = c.before.before.before.before in
     let a = s.before.before.before.before.args in
-    cell-of-byte a.i a.a a.b a.m s.cell-byte.result _ _ _ s.before.before.if1.false
+    cell_of_byte a.i a.a a.b a.m s.cell-byte.result _ _ _ s.before.before.if1.false
     s.cell-byte.ensures c.before.before.with_byte.ensures
 
 pub with_cell_spec : {M : Type 1} → statement M

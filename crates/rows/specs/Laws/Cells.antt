@@ -4,7 +4,7 @@ use Rattle.std.proofs.Common.{sym, subst, inl, inr, arith}
 use Rattle.std.proofs.Math.Decide.{dec_lt}
 use Rattle.table.specs.Constants.{row_names, row_cells, row_bytes}
 use Rattle.rules.specs.Label.{Label, own, forked, unknown, several}
-use Rattle.grid.specs.Laws.Masks.{has_zero}
+use Rattle.grid.proofs.Laws.Masks.{has_zero}
 use Rattle.rows.specs.Bytes.{Labelled, RowsOf}
 
 -- zero has none

@@ -3,16 +3,16 @@
 use Rattle.std.specs.Prelude.{refl, ◌≢◌, ℕ, ◌<◌, ◌≤◌, length}
 use Rattle.std.proofs.Common.{inl, inr, arith}
 use Rattle.std.proofs.Math.Decide.{dec_lt}
-use Rattle.table.specs.Laws.Lists.{body_listed}
+use Rattle.table.proofs.Laws.Lists.{body_listed}
 use Rattle.table.specs.Program.{Code, end, new, lock, fork, choice, call, mirror, Program}
 use Rattle.table.specs.Program.{params, body}
 use Rattle.rules.specs.Label.{Label, several, combine, cut}
 use Rattle.rules.specs.Model.{Kept, Place, at_head, naming, under_lock, under_fork, Model, Row, Ring}
 use Rattle.rules.specs.Verdict.{Calls}
 use Rattle.rules.specs.Derived.{Pairs, RecordedFrom, RowOf, Closed, given, follows, KeptFrom, Derived}
-use Rattle.rules.specs.Laws.Satisfies.{Satisfies}
-use Rattle.rules.specs.Laws.Least.{recorded-mono, model_satisfies, model_least}
-use Rattle.rules.specs.Laws.Closure.{closed-least}
+use Rattle.rules.proofs.Laws.Satisfies.{Satisfies}
+use Rattle.rules.proofs.Laws.Least.{recorded_mono, model_satisfies, model_least}
+use Rattle.rules.proofs.Laws.Closure.{closed_least}
 
 -- the rows R have only pairs of the model's rows
 abbrev pub Sound : Program → Pairs → Type 0
@@ -24,63 +24,63 @@ UpToDate P R r =
     (a b : ℕ) (m : Label) → Derived P R r a b m → a ≤ params P r → b ≤ params P r → a ≢ b → R r a b (cut m)
 
 -- larger pairs have a larger closure
-pub closed-mono :
+pub closed_mono :
     (G H : ℕ → ℕ → Label → Type 0) → ((a b : ℕ) (l : Label) → G a b l → H a b l)
     → {a b : ℕ} {l : Label} → Closed G a b l → Closed H a b l
-closed-mono G H f w =
-    closed-least G (Closed H) (λ a b l p. given (f a b l p)) (λ a b c l m p q k. follows p q refl k) w
+closed_mono G H f w =
+    closed_least G (Closed H) (λ a b l p. given (f a b l p)) (λ a b c l m p q k. follows p q refl k) w
 
 -- from sound rows only pairs of the model are worked out
 pub sound_step : (P : Program) (R : Pairs) → Sound P R → (r a b : ℕ) (l : Label) → Derived P R r a b l → Model P r a b l
-sound_step P R s r a b l w = closed-least (KeptFrom R (body P r)) (Model P r) base ((model_satisfies P).follows r) w
+sound_step P R s r a b l w = closed_least (KeptFrom R (body P r)) (Model P r) base ((model_satisfies P).follows r) w
   where
     base : (a b : ℕ) (l : Label) → KeptFrom R (body P r) a b l → Model P r a b l
     base a b l p =
         (model_satisfies P).records r a b l
-        (recorded-mono R (RowOf P (Model P)) s (body P r) at_head a b l p.0) p.1
+        (recorded_mono R (RowOf P (Model P)) s (body P r) at_head a b l p.0) p.1
 
 -- a code that calls only routines whose rows S has as well records from S what it records from R
-pub recorded-calls :
+pub recorded_calls :
     (R S : Pairs) (c : Code) → ((q a b : ℕ) (l : Label) → Calls c q → R q a b l → S q a b l)
     → (π : Place) (a b : ℕ) (l : Label) → RecordedFrom R c π a b l → RecordedFrom S c π a b l
-recorded-calls R S (new x c) f π a b l w = recorded-calls R S c f (naming x x π) a b l w
-recorded-calls R S (lock x c d) f π a b l (inl w) = inl w
-recorded-calls R S (lock x c d) f π a b l (inr (inl w)) =
-    inr (inl (recorded-calls R S c (λ q a b l k. f q a b l (inl k)) (under_lock (π.roots x) π) a b l w))
-recorded-calls R S (lock x c d) f π a b l (inr (inr w)) =
-    inr (inr (recorded-calls R S d (λ q a b l k. f q a b l (inr k)) π a b l w))
-recorded-calls R S (fork i c d) f π a b l (inl w) =
-    inl (recorded-calls R S c (λ q a b l k. f q a b l (inl k)) (under_fork i π) a b l w)
-recorded-calls R S (fork i c d) f π a b l (inr w) =
-    inr (recorded-calls R S d (λ q a b l k. f q a b l (inr k)) π a b l w)
-recorded-calls R S (choice u v c) f π a b l (inl w) =
-    inl (recorded-calls R S u (λ q a b l k. f q a b l (inl k)) π a b l w)
-recorded-calls R S (choice u v c) f π a b l (inr (inl w)) =
-    inr (inl (recorded-calls R S v (λ q a b l k. f q a b l (inr (inl k))) π a b l w))
-recorded-calls R S (choice u v c) f π a b l (inr (inr w)) =
-    inr (inr (recorded-calls R S c (λ q a b l k. f q a b l (inr (inr k))) π a b l w))
-recorded-calls R S (call q xs c) f π a b l (inl w) =
+recorded_calls R S (new x c) f π a b l w = recorded_calls R S c f (naming x x π) a b l w
+recorded_calls R S (lock x c d) f π a b l (inl w) = inl w
+recorded_calls R S (lock x c d) f π a b l (inr (inl w)) =
+    inr (inl (recorded_calls R S c (λ q a b l k. f q a b l (inl k)) (under_lock (π.roots x) π) a b l w))
+recorded_calls R S (lock x c d) f π a b l (inr (inr w)) =
+    inr (inr (recorded_calls R S d (λ q a b l k. f q a b l (inr k)) π a b l w))
+recorded_calls R S (fork i c d) f π a b l (inl w) =
+    inl (recorded_calls R S c (λ q a b l k. f q a b l (inl k)) (under_fork i π) a b l w)
+recorded_calls R S (fork i c d) f π a b l (inr w) =
+    inr (recorded_calls R S d (λ q a b l k. f q a b l (inr k)) π a b l w)
+recorded_calls R S (choice u v c) f π a b l (inl w) =
+    inl (recorded_calls R S u (λ q a b l k. f q a b l (inl k)) π a b l w)
+recorded_calls R S (choice u v c) f π a b l (inr (inl w)) =
+    inr (inl (recorded_calls R S v (λ q a b l k. f q a b l (inr (inl k))) π a b l w))
+recorded_calls R S (choice u v c) f π a b l (inr (inr w)) =
+    inr (inr (recorded_calls R S c (λ q a b l k. f q a b l (inr (inr k))) π a b l w))
+recorded_calls R S (call q xs c) f π a b l (inl w) =
     inl (w.0, w.1, w.2, f q w.0 w.1 w.2 (inl refl) w.3, w.4, w.5, w.6)
-recorded-calls R S (call q xs c) f π a b l (inr w) =
-    inr (recorded-calls R S c (λ q a b l k. f q a b l (inr k)) π a b l w)
-recorded-calls R S (mirror x y c) f π a b l w = recorded-calls R S c f (naming x (π.roots y) π) a b l w
+recorded_calls R S (call q xs c) f π a b l (inr w) =
+    inr (recorded_calls R S c (λ q a b l k. f q a b l (inr k)) π a b l w)
+recorded_calls R S (mirror x y c) f π a b l w = recorded_calls R S c f (naming x (π.roots y) π) a b l w
 
 -- what is worked out in a body depends on the rows of the routines that it calls alone
-pub calls-only :
+pub calls_only :
     (P : Program) (R S : Pairs) (r : ℕ)
     → ((q a b : ℕ) (l : Label) → Calls (body P r) q → R q a b l → S q a b l)
     → (a b : ℕ) (l : Label) → Derived P R r a b l → Derived P S r a b l
-calls-only P R S r f a b l w =
-    closed-mono (KeptFrom R (body P r)) (KeptFrom S (body P r))
-    (λ a b l p. (recorded-calls R S (body P r) f at_head a b l p.0, p.1)) w
+calls_only P R S r f a b l w =
+    closed_mono (KeptFrom R (body P r)) (KeptFrom S (body P r))
+    (λ a b l p. (recorded_calls R S (body P r) f at_head a b l p.0, p.1)) w
 
 -- a routine stays up to date while its row keeps its pairs and the rows that it calls get none
-pub up-to-date-kept :
+pub up_to_date_kept :
     (P : Program) (R S : Pairs) (r : ℕ) → ((a b : ℕ) (l : Label) → R r a b l → S r a b l)
     → ((q a b : ℕ) (l : Label) → Calls (body P r) q → S q a b l → R q a b l)
     → UpToDate P R r → UpToDate P S r
-up-to-date-kept P R S r keep back u a b m w ha hb ne =
-    keep a b (cut m) (u a b m (calls-only P S R r back a b m w) ha hb ne)
+up_to_date_kept P R S r keep back u a b m w ha hb ne =
+    keep a b (cut m) (u a b m (calls_only P S R r back a b m w) ha hb ne)
 
 -- a routine that the program does not have is up to date: its body records nothing
 pub up_to_date_beyond : (P : Program) (R : Pairs) (r : ℕ) → length P ≤ r → UpToDate P R r
@@ -94,7 +94,7 @@ up_to_date_beyond P R r h a b m w ha hb ne =
     none_follow a b c l m p q k = p
 
     none : ¬ Closed (KeptFrom R end) a b m
-    none v = closed-least (KeptFrom R end) (λ a b l. ⊥) none_given none_follow v
+    none v = closed_least (KeptFrom R end) (λ a b l. ⊥) none_given none_follow v
 
 module _ (P : Program) (R : Pairs) (current : (r : ℕ) → r < length P → UpToDate P R r) where
   all_current : (r : ℕ) → UpToDate P R r
@@ -110,7 +110,7 @@ module _ (P : Program) (R : Pairs) (current : (r : ℕ) → r < length P → UpT
   derived_satisfies : Satisfies P (Derived P R)
   derived_satisfies = record {
     records = λ r a b l w k.
-        given (recorded-mono (RowOf P (Derived P R)) R row_derived (body P r) at_head a b l w, k);
+        given (recorded_mono (RowOf P (Derived P R)) R row_derived (body P r) at_head a b l w, k);
     follows = λ r a b c l m p q k. follows p q refl k;
   }
 

@@ -1,7 +1,7 @@
 -- `answered` meets its contract: the answer is the one of the machine's mark.
 use Rattle.schedule.specs.Schedule.{all_ended, stuck, at_end, unstarted, beyond}
 use Rattle.runner.specs.Parts.{reached}
-use Rattle.runner.specs.Laws.Answers.{answer_is, answer_other}
+use Rattle.runner.proofs.Laws.Answers.{answer_is, answer_other}
 use borrow.Author.Rules.{rules}
 use Rattle.runner.proofs.answered.Statement.{statement}
 use Rattle.runner.proofs.answered.Tie as tie

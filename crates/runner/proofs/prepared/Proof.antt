@@ -4,8 +4,8 @@ use Prim.Native.Nat.{◌^◌, ◌<◌}
 use native.Mathlib.Omega.{arith}
 use lib.ListN.{length}
 use Rattle.table.specs.Check.{check_table}
-use Rattle.table.specs.Laws.Accepts.{refused_of}
-use Rattle.table.specs.Laws.Sections.{AcceptedAs, accepted_as}
+use Rattle.table.proofs.Laws.Accepts.{refused_of}
+use Rattle.table.proofs.Laws.Sections.{AcceptedAs, accepted_as}
 use Rattle.steps.specs.declared.machine.Machine.{Machine}
 use Rattle.steps.specs.Machines.{over_as}
 use Rattle.runner.proofs.SectionLaws.{prepared_refused, prepared_accepted}

@@ -41,7 +41,7 @@ use Rattle.steps.specs.declared.thread.Thread.{Thread as Record}
 use Rattle.steps.specs.declared.machine.Machine.{Machine}
 use Rattle.runner.specs.Ticks.{section_of, Ticks}
 use Rattle.runner.specs.Parts.{Prepared, answer_of}
-use Rattle.runner.specs.Laws.Sections.{can_run, has_run}
+use Rattle.runner.proofs.Laws.Sections.{can_run, has_run}
 use Rattle.runner.specs.contracts.Ran as R
 use Rattle.runner.proofs.Ran.TheLaws as R'
 use Rattle.runner.proofs.LendLaws.{ref_at, fills, lends_array, takes_array, shares_array, frees_array}

@@ -1,7 +1,7 @@
 -- `improve` meets its contract: what is worked out in the body is added to the row.
 use native.Mathlib.Omega.{arith}
-use Rattle.table.specs.Laws.Sections.{routines}
-use Rattle.table.specs.Laws.Sections.{few_params}
+use Rattle.table.proofs.Laws.Sections.{routines}
+use Rattle.table.proofs.Laws.Sections.{few_params}
 use Rattle.settle.specs.Laws.Improving.{improves}
 use borrow.Author.Rules.{rules}
 use Rattle.settle.proofs.improve.Statement.{statement}

@@ -1,6 +1,6 @@
 -- `worked_out` meets its contract: the walk records the body's pairs in an empty grid, and the closing composes them.
 use native.Mathlib.Omega.{arith}
-use Rattle.table.specs.Laws.Sections.{routines}
+use Rattle.table.proofs.Laws.Sections.{routines}
 use Rattle.settle.proofs.WorkLaws.{can_record, can_close, works}
 use borrow.Author.Rules.{rules}
 use Rattle.settle.proofs.worked_out.Statement.{statement}

@@ -6,7 +6,7 @@ use Rattle.table.specs.Constants.{row_bytes}
 use Rattle.table.specs.Program.{Program}
 use Rattle.rules.specs.Label.{Label}
 use Rattle.grid.specs.Rows.{Has}
-use Rattle.grid.specs.Laws.Masks.{has_below}
+use Rattle.grid.proofs.Laws.Masks.{has_below}
 use Rattle.rows.specs.Bytes.{RowsOf}
 use Rattle.rows.specs.Model.{ShapedRow}
 use Rattle.rows.specs.Laws.Cells.{no_label}

@@ -4,10 +4,10 @@ use Rattle.std.proofs.Common.{◌∙◌, subst, arith}
 use Rattle.std.proofs.Math.Decide.{dec_lt}
 use Rattle.std.proofs.Math.ListN.{get_or-eq_default}
 use Rattle.table.specs.Program.{Program}
-use Rattle.table.specs.Laws.Sections.{params_at}
+use Rattle.table.proofs.Laws.Sections.{params_at}
 use Rattle.rules.specs.Label.{Label, several}
 use Rattle.grid.specs.Grid.{Pair, LowestRing}
-use Rattle.grid.specs.Laws.Masks.{has_zero}
+use Rattle.grid.proofs.Laws.Masks.{has_zero}
 use Rattle.rows.specs.Model.{RowAdded}
 use Rattle.settle.specs.Settle.{GridOf, Named}
 use Rattle.settle.specs.Bodies.{Works, Improves}

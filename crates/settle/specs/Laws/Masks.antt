@@ -10,7 +10,7 @@ use Rattle.std.proofs.lemmas.Nat.{leading_top}
 use Rattle.std.proofs.Math.Pow.{field, mod-mod-pow}
 use Rattle.table.specs.Laws.ScopeMask.{grows, double, lower, shift_one}
 use Rattle.grid.specs.Rows.{Has, Bits}
-use Rattle.grid.specs.Laws.Masks.{has_zero, has_below}
+use Rattle.grid.proofs.Laws.Masks.{has_zero, has_below}
 use Rattle.settle.specs.Due.{Highest}
 
 next_power : (r : ℕ) → 2 ^ (r + 1) ≡ 2 ^ r + 2 ^ r

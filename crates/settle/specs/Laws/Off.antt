@@ -6,7 +6,7 @@ use Rattle.std.proofs.lemmas.Nat.{or_lt}
 use Rattle.std.proofs.Math.Pow.{pow-lt}
 use Rattle.table.specs.Laws.ScopeMask.{shift_one}
 use Rattle.grid.specs.Rows.{Has, Bits}
-use Rattle.grid.specs.Laws.Masks.{has_below, has_left, has_right, has_pow}
+use Rattle.grid.proofs.Laws.Masks.{has_below, has_left, has_right, has_pow}
 use Rattle.settle.specs.Laws.Masks.{bit_within, less_bit}
 
 -- routine r, of a mask of routines below n

@@ -6,7 +6,7 @@ use Rattle.table.specs.Program.{Program, body}
 use Rattle.table.specs.WellFormed.{WellFormed}
 use Rattle.table.specs.Encoding.{encode, encode_bodies}
 use Rattle.rules.specs.Verdict.{Reached, first, then}
-use Rattle.rules.specs.Laws.Verdict.{reached_within}
+use Rattle.rules.proofs.Laws.Verdict.{reached_within}
 use Rattle.grid.specs.Rows.{Bits}
 use Rattle.settle.specs.Bodies.{start_of, Surveyed}
 use Rattle.settle.specs.Reach.{Reachable, main, next}

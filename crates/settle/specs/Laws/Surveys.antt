@@ -5,15 +5,15 @@ use Rattle.std.proofs.Math.Decide.{ℕ_discrete}
 use Rattle.table.specs.Constants.{END}
 use Rattle.table.specs.Program.{Program, body}
 use Rattle.table.specs.Encoding.{encode, encode_bodies}
-use Rattle.table.specs.Laws.Sound.{counts_params}
+use Rattle.table.proofs.Laws.Sound.{counts_params}
 use Rattle.rules.specs.Verdict.{Calls}
 use Rattle.grid.specs.Rows.{Has}
-use Rattle.table.specs.Laws.Fine.{Fine, IsBody}
+use Rattle.table.proofs.Laws.Fine.{Fine, IsBody}
 use Rattle.pairs.specs.Parts.{Scans}
-use Rattle.table.specs.Laws.Within.{fine}
+use Rattle.table.proofs.Laws.Within.{fine}
 use Rattle.settle.specs.Bodies.{start_of, Surveyed, Surveys}
 use Rattle.settle.specs.Laws.Starts.{body_at, start_next}
-use Rattle.table.specs.Laws.Sections.{Holds, routines, Held, few}
+use Rattle.table.proofs.Laws.Sections.{Holds, routines, Held, few}
 
 module _ (P : Program) (ks s : List ℕ) (h : Holds P ks s) (r : ℕ) (l : r < length P) where
   -- what follows the body of routine r

@@ -4,7 +4,7 @@ use mathlib.Core.List.{List}
 use Prim.Native.Nat.{ℕ, ◌≤◌}
 use native.Mathlib.Omega.{arith}
 use lib.ListN.{length}
-use Rattle.table.specs.Laws.Sections.{Holds, few}
+use Rattle.table.proofs.Laws.Sections.{Holds, few}
 use Rattle.settle.specs.Laws.Surveys.{cut_surveyed}
 use Rattle.settle.proofs.survey.survey_bodies.Reads as survey-bodies-reads
 use Rattle.update.proofs.FitLaws.{told_so}

@@ -1,6 +1,6 @@
 -- `bring_surveyed` meets its contract: the tables are compared, the model is looked at, and its rows are worked out.
 use native.Mathlib.Omega.{arith}
-use Rattle.table.specs.Laws.Sections.{few_params}
+use Rattle.table.proofs.Laws.Sections.{few_params}
 use Rattle.settle.specs.Laws.Links.{no_callers}
 use Rattle.update.proofs.BringLaws.{few_calls, can_compare, can_rework, brings_other, brings_bad, brings_done}
 use borrow.Author.Rules.{rules}

@@ -2,9 +2,9 @@
 use mathlib.Core.Path.{sym, ◌∙◌}
 use native.Mathlib.Omega.{arith}
 use Rattle.table.specs.Check.{check_table}
-use Rattle.table.specs.Laws.Accepts.{refused_of}
-use Rattle.table.specs.Laws.Refusals.{refusals}
-use Rattle.table.specs.Laws.Sections.{AcceptedAs, accepted_as}
+use Rattle.table.proofs.Laws.Accepts.{refused_of}
+use Rattle.table.proofs.Laws.Refusals.{refusals}
+use Rattle.table.proofs.Laws.Sections.{AcceptedAs, accepted_as}
 use Rattle.table.proofs.check.Reads as check-reads
 use Rattle.update.proofs.bring_accepted.Reads as bring-accepted-reads
 use Rattle.update.proofs.BringLaws.{refused_by_old, refused_by_new, replaced_by}

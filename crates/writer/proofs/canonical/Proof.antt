@@ -2,9 +2,9 @@
 use mathlib.Core.Path.{sym, ◌∙◌}
 use native.Mathlib.Omega.{arith}
 use Rattle.table.specs.Check.{check_table}
-use Rattle.table.specs.Laws.Accepts.{refused_of}
-use Rattle.table.specs.Laws.Refusals.{refusals}
-use Rattle.table.specs.Laws.Sections.{accepted_as}
+use Rattle.table.proofs.Laws.Accepts.{refused_of}
+use Rattle.table.proofs.Laws.Refusals.{refusals}
+use Rattle.table.proofs.Laws.Sections.{accepted_as}
 use Rattle.writer.proofs.AnswerLaws.{refused_writes, accepted_writes}
 use borrow.Author.Rules.{rules}
 use Rattle.writer.proofs.canonical.Statement.{statement}

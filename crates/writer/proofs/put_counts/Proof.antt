@@ -3,7 +3,7 @@ use mathlib.Core.Path.{◌≡◌}
 use Prim.Native.Nat.{◌+◌, ◌-◌, ◌≤◌}
 use native.Mathlib.Omega.{arith}
 use lib.ListN.{length, take}
-use Rattle.table.specs.Laws.Lists.{getD-in}
+use Rattle.table.proofs.Laws.Lists.{get_or_in}
 use Rattle.append.specs.Appends.{Appends}
 use Rattle.append.specs.Laws.Appending.{nothing, same_size}
 use Rattle.writer.specs.Parts.{counts_of}
@@ -36,7 +36,7 @@ shared-slice-read-put-byte c =
     let l = turn.loop in
     let start = turn.before.before.before.before in
     let a = start.args in
-    let w = start.requires.below _ (getD-in a.routines.now l.i (omega arith)).0 in
+    let w = start.requires.below _ (get_or_in a.routines.now l.i (omega arith)).0 in
     search rules
 
 put-byte-requires : tie.Need-put-byte-requires invariant-loop decreases-loop

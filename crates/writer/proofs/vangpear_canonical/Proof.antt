@@ -1,7 +1,7 @@
 -- `vangpear_canonical` meets its contract: it gives the number of what `canonical` answers.
 use mathlib.Core.Path.{sym, ap}
 use Rattle.writer.specs.Answer.{written_number}
-use Rattle.writer.specs.Laws.Fits.{small_length, small_refusal}
+use Rattle.writer.proofs.Laws.Fits.{small_length, small_refusal}
 use borrow.Author.Rules.{rules}
 use Rattle.writer.proofs.vangpear_canonical.Statement.{statement}
 use Rattle.writer.proofs.vangpear_canonical.Tie as tie

@@ -1,7 +1,7 @@
 -- `write` meets its contract: a survey tells where the bodies start.
 use mathlib.Core.Path.{refl}
 use native.Mathlib.Omega.{arith}
-use Rattle.table.specs.Laws.Sections.{few}
+use Rattle.table.proofs.Laws.Sections.{few}
 use Rattle.settle.specs.Laws.Surveys.{cut_surveyed}
 use Rattle.writer.proofs.AnswerLaws.{holds_at}
 use borrow.Author.Rules.{rules}

@@ -1,7 +1,7 @@
 -- `verdict_of` meets its contract: the lowest routine of the mask, and its ring name.
 use mathlib.Core.Path.{refl}
 use native.Mathlib.Omega.{arith}
-use Rattle.grid.specs.Laws.Masks.{has_below}
+use Rattle.grid.proofs.Laws.Masks.{has_below}
 use borrow.Author.Rules.{rules}
 use Rattle.analysis.proofs.judging.verdict_of.Statement.{statement}
 use Rattle.analysis.proofs.judging.verdict_of.Tie as tie

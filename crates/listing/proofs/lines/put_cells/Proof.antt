@@ -4,7 +4,7 @@ use Prim.Native.Nat.{◌+◌, ◌*◌, ◌≤◌, ◌-◌}
 use Rattle.listing.specs.Text.{each, cell_line}
 use Rattle.append.specs.Appends.{Appends}
 use Rattle.append.specs.Laws.Appending.{same_size}
-use Rattle.listing.specs.Laws.Texts.{each_none, each_more, each_all}
+use Rattle.listing.proofs.Laws.Texts.{each_none, each_more, each_all}
 use borrow.Author.Rules.{rules}
 use Rattle.listing.proofs.lines.put_cells.Statement.{statement}
 use Rattle.listing.proofs.lines.put_cells.Tie as tie

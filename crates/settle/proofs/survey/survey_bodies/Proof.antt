@@ -1,7 +1,7 @@
 -- `survey_bodies` meets its contract: the routines passed so far are told of, and the next body is at the offset.
 use Prim.Native.Nat.{◌-◌}
 use lib.ListN.{length}
-use Rattle.table.specs.Laws.Sections.{few}
+use Rattle.table.proofs.Laws.Sections.{few}
 use Rattle.settle.specs.Laws.Surveys.{Surveying, survey_start, scan_ready, survey_turn, all_surveyed}
 use borrow.Author.Rules.{rules}
 use native.Mathlib.Omega.{arith}

@@ -1,0 +1,5 @@
+pub mod Bytes
+pub mod Unique
+pub mod Counted
+pub mod LastBytes
+pub mod Judged

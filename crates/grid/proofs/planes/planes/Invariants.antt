@@ -1,0 +1,10 @@
+-- `planes` meets its contract: the loop's turn l makes plane l, which stays empty where no pair has label l.
+use mathlib.Core.List.{[]}
+use Rattle.rules.specs.Number.{labels}
+use Rattle.grid.specs.Rows.{Edge, Same}
+use Rattle.grid.specs.Planes.{Labelled}
+use Rattle.grid.proofs.Loops.{Passed}
+use Rattle.grid.proofs.planes.planes.Given as goal
+
+abbrev pub invariant-loop-l : goal.invariant-loop-l
+invariant-loop-l l = Passed [] labels (λ k r. Same (Edge r) (Labelled l.g k)) l.initial.next l.next l.l
