@@ -1,4 +1,6 @@
 // The dearest chain: the table of n routines that needs n + 1 rounds, written into a lent buffer.
+#![tactic(auto)]
+
 ghost use Rattle.std.specs.Prelude.{◌≡◌, ◌+◌, ◌≤◌, ◌<◌};
 ghost use Rattle.table.specs.Constants.{most_routines, END as closed-by-END};
 ghost use Rattle.table.specs.Program.{end, lock, body};

@@ -237,6 +237,7 @@ placed_mask v t l = record { small = low; only = only; all = all }
         (bits.to p.0 p.3)
 
     all : (k : Label) → Labelled v k → In mask (placed (label_of t) k)
+    all (Rattle.rules.specs.Label.forked _) h = elim h [ ]
     all own h = (t, omega arith, refl, bits.from t (inl (inl (h, refl))))
     all unknown h = (number unknown, omega arith, refl, bits.from (number unknown) (inl (inr (h, refl))))
     all several h = (number several, omega arith, refl, bits.from (number several) (inr (h, refl)))

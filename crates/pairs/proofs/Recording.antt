@@ -247,7 +247,9 @@ module _ {ks : List ℕ} {k : ℕ} {s : List ℕ} {at : ℕ} {rows : List ℕ} {
               met = λ a b l y. ⊎_elim (z.met a b l)
                   (λ x. inr (z.pending a b l (pair_at (RowBits rows) a b l z.levels x.0), x.1))
                   (q.only a b l y);
-              pending = λ a b l y. z.pending a b l (past_left _ _ (parts_pair (RowBits rows) a b l) z.levels y);
+              pending = λ a b l y. z.pending a b l
+                  (past_left (PairAt (RowBits rows) a b l) (PairIn (RowBits rows) a b l) (parts_pair (RowBits rows) a b l)
+                  z.levels y);
               all = λ a b l y k.
                   ⊎_elim
                   (λ x. inl (q.old a b l x))

@@ -321,6 +321,13 @@ module _ (ks s t : List ℕ) (at top : ℕ) where
   -- a call is met where its code stands
   pub call_met : (q : ℕ) (ls : List Level) → Left ks s t at top ls → AtItem (CallAt q) ls
       → (get_or s at 0 ≡ code CALL) × (q ≡ get_or s (at + 1) 0)
+  call_met q (level (mirror _ _ _) u π ∷ ls) p e = elim e [ ]
+  call_met q (level (choice _ _ _) u π ∷ ls) p e = elim e [ ]
+  call_met q (level (fork _ _ _) u π ∷ ls) p e = elim e [ ]
+  call_met q (level (lock _ _ _) u π ∷ ls) p e = elim e [ ]
+  call_met q (level (new _ _) u π ∷ ls) p e = elim e [ ]
+  call_met q (level end u π ∷ ls) p e = elim e [ ]
+  call_met q [] p e = elim e [ ]
   call_met q (level (call r xs c) u π ∷ ls) p e =
       (first_byte s at _ _ p.content, e ∙ sym (byte_at s at 1 _ p.content))
 
@@ -334,6 +341,12 @@ module _ (ks s t : List ℕ) (at top : ℕ) where
   -- an item that is neither LOCK nor CALL records nothing
   pub quiet : (R : Pairs) (a b : ℕ) (l : Label) (ls : List Level) → Left ks s t at top ls
       → (get_or s at 0 ≡ code LOCK → ⊥) → (get_or s at 0 ≡ code CALL → ⊥) → AtItem (PairAt R a b l) ls → ⊥
+  quiet R a b l (level (mirror _ _ _) u π ∷ ls) p n m e = elim e [ ]
+  quiet R a b l (level (choice _ _ _) u π ∷ ls) p n m e = elim e [ ]
+  quiet R a b l (level (fork _ _ _) u π ∷ ls) p n m e = elim e [ ]
+  quiet R a b l (level (new _ _) u π ∷ ls) p n m e = elim e [ ]
+  quiet R a b l (level end u π ∷ ls) p n m e = elim e [ ]
+  quiet R a b l [] p n m e = elim e [ ]
   quiet R a b l (level (lock x c d) u π ∷ ls) p n m e = n (first_byte s at _ _ p.content)
   quiet R a b l (level (call r xs c) u π ∷ ls) p n m e = m (first_byte s at _ _ p.content)
 

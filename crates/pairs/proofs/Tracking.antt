@@ -83,8 +83,11 @@ module _ (k : ℕ) where
 
     scopes_kept : (m j : ℕ) (ls : List Level) → Scopes k n rs m j ls → Scopes k (n + 1) (set rs (n + 1) v) m j ls
     scopes_kept m j [] p = p
-    scopes_kept m j (level c u π ∷ ls) p =
-        (named_kept p.0, second_kept _ _ u p.1, scopes_kept _ _ ls p.2)
+    scopes_kept m j (level c u π ∷ ls) p = (
+      named_kept p.0,
+      second_kept _ _ u p.1,
+      scopes_kept (m + locals c + second_locals u) (j + forks c + second_forks u) ls p.2,
+    )
 
     -- the code that has it in scope, with the root v
     named_more : {m j m' j' : ℕ} {π : Place} {c d : Code} (x z : ℕ) (p : InScope k n rs m j π c) → x ≡ n + 1 → v ≡ z

@@ -1,4 +1,6 @@
 // The walk over a body that was accepted: the routines that it calls, and the pairs that it records.
+#![tactic(auto)]
+
 ghost use Rattle.std.specs.Prelude.{◌≡◌, ◌⊎◌, ℕ, ◌*◌, ◌<◌, ◌≤◌, length};
 ghost use Rattle.table.specs.Constants.{most_routines, row_bytes};
 ghost use Rattle.grid.specs.Rows.{Has, Bits};

@@ -131,6 +131,7 @@ pub cut_bit : (l m : Label) → l ≡ cut l → bit_of l ≡ bit_of m → l ≡ 
 cut_bit l m e b = e ∙ (sym (label_at_lem l) ∙ (ap label_at b ∙ label_at_lem m))
 
 pub labelled_has : (v : ℕ) (l : Label) → Labelled v l → Has v (bit_of l) × (l ≡ cut l)
+labelled_has v (forked _) h = elim h [ ]
 labelled_has v own h = (h, refl)
 labelled_has v unknown h = (h, refl)
 labelled_has v several h = (h, refl)

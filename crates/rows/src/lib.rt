@@ -1,4 +1,6 @@
 // Rows of the model buffer: adding the row of a closed grid, and clearing rows.
+#![tactic(auto)]
+
 ghost use Rattle.std.specs.Prelude.{◌+◌, ◌*◌, ◌<◌, ◌≤◌, length};
 ghost use Rattle.table.specs.Constants.{most_names, most_params, row_cells, row_bytes};
 ghost use Rattle.grid.specs.Rows.{Bits};

@@ -12,6 +12,7 @@ pub mod Older
 pub mod Before101
 pub mod Table
 pub mod Number
+pub mod Entries
 pub mod Before103
 pub mod Before104
 pub mod Before105

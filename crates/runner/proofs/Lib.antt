@@ -1,6 +1,2 @@
 pub mod Laws
-mod BeginLaws
 mod SectionLaws
-pub mod WalkLaws
-pub mod ParamLaws
-pub mod LendLaws

@@ -1,4 +1,6 @@
 // The schedule runner: a table run under a schedule, its threads in a lent run of records.
+#![tactic(auto)]
+
 ghost use Rattle.std.specs.Prelude.{◌≡◌, not, eqb, length};
 ghost use Rattle.table.specs.Constants.{most_routines, most_bytes};
 ghost use Rattle.table.specs.Check.{check_table};

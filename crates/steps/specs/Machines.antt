@@ -1,5 +1,6 @@
 -- What the functions over the machine do: the machine that each gives back.
-use Rattle.std.specs.Prelude.{◌≡◌, Bool, false, cond, not, ◌||◌, List, ℕ, zero, suc, ◌+◌, ◌-◌, ◌%◌, ◌<◌, ◌≤◌, eqb, leb, length, get_or, set}
+use Rattle.std.specs.Prelude.{◌≡◌, Bool, false, cond, not, ◌||◌, List, ℕ, zero, suc, ◌+◌, ◌-◌, ◌%◌, ◌<◌, ◌≤◌, eqb}
+use Rattle.std.specs.Prelude.{leb, length, get_or, set}
 use Rattle.table.specs.Constants.{LOCK, code, most_names}
 use Rattle.schedule.specs.Limits.{most_threads, most_locks, most_frames}
 use Rattle.steps.specs.declared.thread.Thread.{Thread as Record}

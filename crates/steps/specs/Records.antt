@@ -1,5 +1,6 @@
 -- What the functions over one record do: the record that each gives back.
-use Rattle.std.specs.Prelude.{Bool, true, false, cond, List, ℕ, zero, suc, ◌+◌, ◌*◌, ◌-◌, ◌<◌, ◌≤◌, ltb, length, get_or, set, replicate}
+use Rattle.std.specs.Prelude.{Bool, true, false, cond, List, ℕ, zero, suc, ◌+◌, ◌*◌, ◌-◌, ◌<◌, ◌≤◌, ltb, length}
+use Rattle.std.specs.Prelude.{get_or, set, replicate}
 use Rattle.table.specs.Constants.{most_names}
 use Rattle.schedule.specs.Limits.{most_locks, most_frames}
 use Rattle.steps.specs.declared.thread.Thread.{Thread as Record}

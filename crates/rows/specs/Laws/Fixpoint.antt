@@ -43,6 +43,7 @@ sound_step P R s r a b l w = closed_least (KeptFrom R (body P r)) (Model P r) ba
 pub recorded_calls :
     (R S : Pairs) (c : Code) → ((q a b : ℕ) (l : Label) → Calls c q → R q a b l → S q a b l)
     → (π : Place) (a b : ℕ) (l : Label) → RecordedFrom R c π a b l → RecordedFrom S c π a b l
+recorded_calls R S end f π a b l w = elim w [ ]
 recorded_calls R S (new x c) f π a b l w = recorded_calls R S c f (naming x x π) a b l w
 recorded_calls R S (lock x c d) f π a b l (inl w) = inl w
 recorded_calls R S (lock x c d) f π a b l (inr (inl w)) =

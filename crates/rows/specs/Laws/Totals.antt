@@ -1,5 +1,6 @@
 -- The sum of a list's bytes: its bound, how a store changes it, and what flags tell of it.
-use Rattle.std.specs.Prelude.{◌≡◌, Bool, true, false, ◌||◌, List, [], ◌∷◌, ℕ, zero, suc, ◌+◌, ◌-◌, ◌*◌, ◌<◌, ◌≤◌, get_or, set, length}
+use Rattle.std.specs.Prelude.{◌≡◌, Bool, true, false, ◌||◌, List, [], ◌∷◌, ℕ, zero, suc, ◌+◌, ◌-◌, ◌*◌, ◌<◌, ◌≤◌, get_or}
+use Rattle.std.specs.Prelude.{set, length}
 use Rattle.std.proofs.Common.{ap, ◌∙◌, arith}
 use Rattle.rows.specs.Model.{total, Moves}
 

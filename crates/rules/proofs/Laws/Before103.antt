@@ -1,27 +1,12 @@
 -- Request 103 put a formula in the place of the table of combined labels: each result is the one that the table gave.
-use Rattle.std.specs.Prelude.{◌≡◌, List, [], ◌∷◌, ℕ, ◌+◌, ◌<◌, get_or}
+use Rattle.std.specs.Prelude.{◌≡◌, [], ℕ, ◌+◌, ◌<◌, get_or}
 use Rattle.std.proofs.Common.{sym, ◌∙◌, arith}
 use Rattle.std.proofs.Math.Decide.{ℕ_discrete}
 use Rattle.table.specs.Constants.{most_forks}
 use Rattle.rules.specs.Label.{combine}
 use Rattle.rules.specs.Number.{number_for, label_for, number, label_of, labels}
+use Rattle.rules.proofs.Laws.Entries.{entries}
 use Rattle.rules.proofs.Laws.Table.{table_rule}
-
--- the table, for routines of at most 8 forks: in row a and column b stands the label of (x, z) where (x, y) has label a
--- and (y, z) label b
-abbrev entries : List (List ℕ)
-entries =
-    (0 ∷ 10 ∷ 10 ∷ 10 ∷ 10 ∷ 10 ∷ 10 ∷ 10 ∷ 10 ∷ 10 ∷ 10 ∷ [])
-    ∷ (10 ∷ 1 ∷ 10 ∷ 10 ∷ 10 ∷ 10 ∷ 10 ∷ 10 ∷ 10 ∷ 10 ∷ 10 ∷ [])
-    ∷ (10 ∷ 10 ∷ 2 ∷ 10 ∷ 10 ∷ 10 ∷ 10 ∷ 10 ∷ 10 ∷ 10 ∷ 10 ∷ [])
-    ∷ (10 ∷ 10 ∷ 10 ∷ 3 ∷ 10 ∷ 10 ∷ 10 ∷ 10 ∷ 10 ∷ 10 ∷ 10 ∷ [])
-    ∷ (10 ∷ 10 ∷ 10 ∷ 10 ∷ 4 ∷ 10 ∷ 10 ∷ 10 ∷ 10 ∷ 10 ∷ 10 ∷ [])
-    ∷ (10 ∷ 10 ∷ 10 ∷ 10 ∷ 10 ∷ 5 ∷ 10 ∷ 10 ∷ 10 ∷ 10 ∷ 10 ∷ [])
-    ∷ (10 ∷ 10 ∷ 10 ∷ 10 ∷ 10 ∷ 10 ∷ 6 ∷ 10 ∷ 10 ∷ 10 ∷ 10 ∷ [])
-    ∷ (10 ∷ 10 ∷ 10 ∷ 10 ∷ 10 ∷ 10 ∷ 10 ∷ 7 ∷ 10 ∷ 10 ∷ 10 ∷ [])
-    ∷ (10 ∷ 10 ∷ 10 ∷ 10 ∷ 10 ∷ 10 ∷ 10 ∷ 10 ∷ 8 ∷ 10 ∷ 10 ∷ [])
-    ∷ (10 ∷ 10 ∷ 10 ∷ 10 ∷ 10 ∷ 10 ∷ 10 ∷ 10 ∷ 10 ∷ 10 ∷ 10 ∷ [])
-    ∷ (10 ∷ 10 ∷ 10 ∷ 10 ∷ 10 ∷ 10 ∷ 10 ∷ 10 ∷ 10 ∷ 10 ∷ 10 ∷ []) ∷ []
 
 -- the formula has the table's entries, by one test at all 121, which antt computes
 by_entry : (f a b : ℕ) → f ≡ 8 → a < f + 3 → b < f + 3

@@ -1,6 +1,6 @@
 -- A CALL and a FORK's new thread keep the record following its thread.
 use Rattle.std.specs.Prelude.{◌≡◌, refl, Bool, false, List, [], ◌∷◌, ℕ, zero, suc, ◌+◌, ◌*◌, ◌-◌, ◌<◌, ◌≤◌, length, get_or, set}
-use Rattle.std.proofs.Common.{sym, ◌∙◌, arith, length-set, get_or-set_same, get_or-set_other, lt-ltb, le-ltb}
+use Rattle.std.proofs.Common.{sym, ◌∙◌, subst, arith, length-set, get_or-set_same, get_or-set_other, lt-ltb, le-ltb}
 use Rattle.std.proofs.Math.Decide.{dec_lt}
 use Rattle.std.proofs.Math.ListN.{get_or-eq_default}
 use Rattle.table.specs.Constants.{most_names}
@@ -134,7 +134,13 @@ follows_call z r xs c b e fs t head to sized room body f =
         ),
       );
       names = rw deep (passed_names z t.names (length fs) e xs (t.at + 2) room sized.names lies.5 f.names);
-      frames = rw deep (marked, lower, below);
+      frames = (
+        rw deep marked,
+        rw deep lower,
+        subst (λ (k : ℕ). FramesAt (set t.kinds k (most_locks + 1))
+            (passed (set t.names (most_names * k + most_names) 0) k z.bytes (t.at + 2) (length xs) (most_names - 1)) fs)
+            (sym f.deep) below,
+      );
       small = passing lies.5;
       all_small = (tt, f.small, f.all_small);
     }

@@ -1,10 +1,11 @@
 -- Each item keeps the record following its thread: the steps of `Run` against those of `Records`.
-use Rattle.std.specs.Prelude.{◌≡◌, refl, Bool, true, false, cond, List, [], ◌∷◌, ℕ, ◌+◌, ◌*◌, ◌-◌, ◌<◌, ◌≤◌, length, get_or, set, eqb}
-use Rattle.std.proofs.Common.{◌∙◌, arith, get_or-set_same, get_or-set_other}
+use Rattle.std.specs.Prelude.{◌≡◌, refl, Bool, true, false, cond, List, [], ◌∷◌, ℕ, ◌+◌, ◌*◌, ◌-◌, ◌<◌, ◌≤◌, length}
+use Rattle.std.specs.Prelude.{get_or, set, eqb}
+use Rattle.std.proofs.Common.{sym, ◌∙◌, subst, arith, get_or-set_same, get_or-set_other}
 use Rattle.table.specs.Constants.{most_names}
 use Rattle.table.specs.Program.{Code, end, new, lock, fork, choice, mirror}
 use Rattle.rules.specs.Model.{bind}
-use Rattle.run.specs.Run.{Env, Open, held, alternative, Frame, frame, ended, at}
+use Rattle.run.specs.Run.{Env, Open, held, alternative, Frame, frame, ended}
 use Rattle.schedule.specs.Limits.{most_locks, most_frames}
 use Rattle.steps.specs.declared.thread.Thread.{Thread as Record}
 use Rattle.steps.specs.Records.{copied, bound_to, entered_as, left_to, moved_to, finished_as, lock_of}
@@ -78,7 +79,11 @@ follows_open z o c c' d e fs r from sized room so f stand =
       few = room;
       stand = stand;
       names = rw f.deep (copied_names r.names (length fs) e room sized.names f.names);
-      frames = rw f.deep (marked, lower (length fs) (omega arith), below);
+      frames = (
+        rw f.deep marked,
+        rw f.deep (lower (length fs) (omega arith)),
+        subst (λ (k : ℕ). FramesAt (set r.kinds k (kind_of o)) (copied r.names k most_names) fs) (sym f.deep) below,
+      );
       small = f.small;
       all_small = (so, f.small, f.all_small);
     }

@@ -149,13 +149,16 @@ picked P z R s ts m on going = by on.1
 pub kept :
     (P : Program) (z : Section) (R : Result) (bodies : Bodies P z) (ts us : List Record) (m n : Machine)
     → Ticks z ts m us n → OnRun P z R bodies ts m → (i : ℕ) → n.threads ≤ i → get_or us i blank ≡ get_or ts i blank
-kept P z R bodies ts us m n start on i h = refl
-kept P z R bodies ts us m n (more vs ws k j ticks going v w sized) on i h =
-    let q = on_ticks P z R bodies ts vs m k ticks on in
-    let p = picked P z R q.0 vs k q.1 going in
-    let g : k.threads ≤ (machine_after z vs k).threads =
-    step_more z.counts z.bytes z.heads z.links z.schedule (looked vs k) k in
-    let e : n.threads ≡ (machine_after z vs k).threads = ap (λ (x : Machine). x.threads) w in
-    ap (λ (x : List Record). get_or x i blank) v
-    ∙ get_or-set_other vs k.pick i (tick_as z (looked vs k) k).thread blank (λ y. omega (arith, y, p, g, e, h))
-    ∙ kept P z R bodies ts vs m k ticks on i (omega (arith, g, e, h))
+kept P z R bodies ts us m n ticks on i h = go us n ticks h
+  where
+    go : (ws : List Record) (j : Machine) → Ticks z ts m ws j → j.threads ≤ i → get_or ws i blank ≡ get_or ts i blank
+    go ws j start h = refl
+    go ws j (more vs xs k l before going v w sized) h =
+        let q = on_ticks P z R bodies ts vs m k before on in
+        let p = picked P z R q.0 vs k q.1 going in
+        let g : k.threads ≤ (machine_after z vs k).threads =
+        step_more z.counts z.bytes z.heads z.links z.schedule (looked vs k) k in
+        let e : j.threads ≡ (machine_after z vs k).threads = ap (λ (x : Machine). x.threads) w in
+        ap (λ (x : List Record). get_or x i blank) v
+        ∙ get_or-set_other vs k.pick i (tick_as z (looked vs k) k).thread blank (λ y. omega (arith, y, p, g, e, h))
+        ∙ go vs k before (omega (arith, g, e, h))

@@ -1,5 +1,6 @@
 -- Where the machine tracks the state, its tests say what the run says: which locks others hold, and how threads stand.
-use Rattle.std.specs.Prelude.{◌≡◌, refl, ◌≢◌, ◌⊎◌, Bool, true, false, cond, not, List, [], ◌∷◌, ℕ, zero, suc, ◌+◌, ◌<◌, ◌≤◌, eqb, length, get_or}
+use Rattle.std.specs.Prelude.{◌≡◌, refl, ◌≢◌, ◌⊎◌, Bool, true, false, cond, not, List, [], ◌∷◌, ℕ, zero, suc, ◌+◌}
+use Rattle.std.specs.Prelude.{◌<◌, ◌≤◌, eqb, length, get_or}
 use Rattle.std.proofs.Common.{sym, ◌∙◌, ap, inl, inr, arith, eq-eqb, ne_eqb, eqb-true}
 use Rattle.std.proofs.Math.Decide.{ℕ_discrete}
 use Rattle.std.proofs.lemmas.Bool.{eqb-false, not-true, not-false}
@@ -22,6 +23,7 @@ occurs_in l (x ∷ xs) h = by (ℕ_discrete x l) (occurs_in l xs)
     by (no n) f = inr (f (rw (ne_eqb x l n) at h))
 
 in_occurs : (l : ℕ) (xs : List ℕ) → In l xs → 1 ≤ occurs l xs
+in_occurs l [] i = elim i [ ]
 in_occurs l (x ∷ xs) i = by (ℕ_discrete x l) i (in_occurs l xs)
   where
     by : Dec (x ≡ l) → In l (x ∷ xs) → (In l xs → 1 ≤ occurs l xs)

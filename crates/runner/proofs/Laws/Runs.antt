@@ -51,10 +51,14 @@ module _ (P : Program) (z : Section) (R : Result) (bodies : Bodies P z) where
 
   -- any number of ticks
   pub on_ticks : (ts us : List Record) (m n : Machine) → Ticks z ts m us n → OnRun ts m → OnRun us n
-  on_ticks ts us m n start on = on
-  on_ticks ts us m n (more vs ws k j ticks going v w sized) on =
-      let r = on_tick vs k (on_ticks ts vs m k ticks on) going sized in
-      subst (λ (q : Machine). OnRun us q) (sym w) (subst (λ (q : List Record). OnRun q (machine_after z vs k)) (sym v) r)
+  on_ticks ts us m n ticks on = go us n ticks
+    where
+      go : (ws : List Record) (j : Machine) → Ticks z ts m ws j → OnRun ws j
+      go ws j start = on
+      go ws j (more vs xs k i before going v w sized) =
+          let r = on_tick vs k (go vs k before) going sized in
+          subst (λ (q : Machine). OnRun ws q) (sym w)
+          (subst (λ (q : List Record). OnRun q (machine_after z vs k)) (sym v) r)
 
   -- where nothing more is to be done, the machine and the records have the result of the run
   pub on_over : (ts : List Record) (m : Machine) → OnRun ts m → m.stage ≡ 2

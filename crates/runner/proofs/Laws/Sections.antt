@@ -40,15 +40,21 @@ use Rattle.runner.proofs.Laws.Steady.{steady}
 
 -- ticks keep the number of records
 ticks_long : (z : Section) (ts us : List Record) (m n : Machine) → Ticks z ts m us n → length us ≡ length ts
-ticks_long z ts us m n ticks.start = refl
-ticks_long z ts us m n (more vs ws k j ticks going v w sized) =
-    ap length v ∙ length-set vs k.pick (tick_as z (looked vs k) k).thread ∙ ticks_long z ts vs m k ticks
+ticks_long z ts us m n turns = go us n turns
+  where
+    go : (ws : List Record) (j : Machine) → Ticks z ts m ws j → length ws ≡ length ts
+    go ws j ticks.start = refl
+    go ws j (more vs xs k l before going v w sized) =
+        ap length v ∙ length-set vs k.pick (tick_as z (looked vs k) k).thread ∙ go vs k before
 
 -- where nothing is to be done, nothing is
 stays : (z : Section) (ts us : List Record) (m n : Machine) → m.stage ≡ 2 → Ticks z ts m us n → (us ≡ ts) × (n ≡ m)
-stays z ts us m n e ticks.start = (refl, refl)
-stays z ts us m n e (more vs ws k j ticks going v w sized) =
-    absurd (going (let s = stays z ts vs m k e ticks in ap (λ (q : Machine). q.stage) s.1 ∙ e))
+stays z ts us m n e turns = go us n turns
+  where
+    go : (ws : List Record) (j : Machine) → Ticks z ts m ws j → (ws ≡ ts) × (j ≡ m)
+    go ws j ticks.start = (refl, refl)
+    go ws j (more vs xs k l before going v w sized) =
+        absurd (going (let s = go vs k before in ap (λ (q : Machine). q.stage) s.1 ∙ e))
 
 -- how far a run came, by its parts
 same_extent : (a b c : ℕ) (x : Result) → a ≡ x.read → b ≡ length x.state.threads → c ≡ x.state.made

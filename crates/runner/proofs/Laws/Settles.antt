@@ -1,5 +1,6 @@
 -- What the machine does next is what the run under the schedule does next.
-use Rattle.std.specs.Prelude.{◌≡◌, refl, Bool, true, false, cond, List, [], ◌∷◌, ℕ, zero, suc, ◌%◌, ◌<◌, ◌≤◌, eqb, length, get_or, drop, set}
+use Rattle.std.specs.Prelude.{◌≡◌, refl, Bool, true, false, cond, List, [], ◌∷◌, ℕ, zero, suc, ◌%◌, ◌<◌, ◌≤◌, eqb}
+use Rattle.std.specs.Prelude.{length, get_or, drop, set}
 use Rattle.std.proofs.Common.{sym, ◌∙◌, ap, subst, arith, length-set, ne_eqb, le-leb}
 use Rattle.std.proofs.Math.Decide.{dec_lt}
 use Rattle.steps.specs.Records.{born_at}
