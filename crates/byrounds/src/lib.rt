@@ -1,4 +1,6 @@
 // The rows of the least model, worked out in rounds, each from what the one before left; and how many these are.
+#![tactic(auto)]
+
 ghost use Rattle.std.specs.Prelude.{◌+◌, ◌*◌, ◌≤◌, length};
 ghost use Rattle.table.specs.Constants.{row_cells, row_bytes};
 ghost use Rattle.settle.specs.Bodies.{RowReady, Improves};

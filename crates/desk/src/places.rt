@@ -5,7 +5,7 @@ use crate::bytes::{least, number_at};
 use table::limits::{CALL, CHOICE, END, FORK, LOCK, MIRROR};
 
 // A place of the body section: the offset of an item, how many blocks are open there, and the routine that it is in.
-#[derive(Drop)]
+#[derive(Clone, Copy)]
 struct Place {
     at: usize,
     open: usize,
@@ -65,7 +65,8 @@ fn behind(p: Place, b: u8, next: usize) -> Place
 // The place behind the item at p.
 fn past(ks: &[u8], s: &[u8], p: Place) -> Place
     requires { (p.at < length s.now) × (p.open ≤ p.at) × (p.routine ≤ p.at) }
-    ensures { (p.at < result.at) × (result.at ≤ length s.now) × (result.open ≤ result.at) × (result.routine ≤ result.at) }
+    ensures { (p.at < result.at) × (result.at ≤ length s.now) × (result.open ≤ result.at)
+        × (result.routine ≤ result.at) }
 {
     let at = p.at;
     let left = s.len() - at;

@@ -28,20 +28,20 @@ fn held(t: Thread, l: u8) -> u64
 }
 
 // Writes the line of the lock l where thread i, whose record is t, holds it.
-fn write_hold(t: Thread, i: usize, l: u8) -> bool {
+fn write_hold(rt: &impl Print, t: Thread, i: usize, l: u8) -> bool {
     let c = held(t, l);
     if c == 0 {
         true
     } else {
-        write_three(b"holds", i as u64, wide(l), c)
+        write_three(rt, b"holds", i as u64, wide(l), c)
     }
 }
 
 // Writes the lines of the locks that thread i, whose record is t, holds.
-fn write_holds(t: Thread, i: usize) -> bool {
+fn write_holds(rt: &impl Print, t: Thread, i: usize) -> bool {
     let mut l: u8 = 0;
     while l < MOST_LOCKS as u8 {
-        if !write_hold(t, i, l) {
+        if !write_hold(rt, t, i, l) {
             return false;
         }
         l += 1;
@@ -96,44 +96,52 @@ fn held_elsewhere(d: Desk, n: usize, i: usize, l: u8) -> bool {
 }
 
 // Writes the line of the lock that thread i of the n of a desk waits for, if it wants l and another one holds l.
-fn write_wait(d: Desk, n: usize, i: usize, l: u8) -> bool {
+fn write_wait(rt: &impl Print, d: Desk, n: usize, i: usize, l: u8) -> bool {
     if MOST_LOCKS <= size(l) {
         return true;
     }
     if held_elsewhere(d, n, i, l) {
-        write_two(b"waits", i as u64, wide(l))
+        write_two(rt, b"waits", i as u64, wide(l))
     } else {
         true
     }
 }
 
 // Writes where thread i, whose record is t, stands.
-fn write_place(ks: &[u8], s: &[u8], t: Thread, i: usize) -> bool {
+fn write_place(rt: &impl Print, ks: &[u8], s: &[u8], t: Thread, i: usize) -> bool {
     let at = t.at;
-    write_at(i as u64, routine_at(ks, s, at) as u64, at as u64)
+    write_at(rt, i as u64, routine_at(ks, s, at) as u64, at as u64)
 }
 
 // Writes the lines of thread i of the n of a desk, whose record is t: of a thread that has ended that alone.
-fn write_thread(ks: &[u8], s: &[u8], d: Desk, n: usize, i: usize, t: Thread) -> bool {
+fn write_thread(
+    rt: &impl Print,
+    ks: &[u8],
+    s: &[u8],
+    d: Desk,
+    n: usize,
+    i: usize,
+    t: Thread,
+) -> bool {
     if t.ended {
-        return write_ended(i as u64);
+        return write_ended(rt, i as u64);
     }
-    if !write_place(ks, s, t, i) {
+    if !write_place(rt, ks, s, t, i) {
         return false;
     }
-    if !write_holds(t, i) {
+    if !write_holds(rt, t, i) {
         return false;
     }
-    write_wait(d, n, i, wanted(s, t))
+    write_wait(rt, d, n, i, wanted(s, t))
 }
 
 // Writes the lines of the first n threads of a desk; ks has the routines' parameter counts, s is the body section.
-pub fn write_threads(ks: &[u8], s: &[u8], d: Desk, n: usize) -> bool {
+pub fn write_threads(rt: &impl Print, ks: &[u8], s: &[u8], d: Desk, n: usize) -> bool {
     let most = least(n, MOST_THREADS);
     let mut i: usize = 0;
     while i < most {
         let t = d.records[i];
-        if !write_thread(ks, s, d, n, i, t) {
+        if !write_thread(rt, ks, s, d, n, i, t) {
             return false;
         }
         i += 1;

@@ -1,7 +1,9 @@
 // Standard input, read into a lent buffer.
-ghost use Rattle.io.specs.Counts.{IsPrefixLen};
+#![tactic(auto)]
 
-use libc::STDIN_FILENO;
+ghost use Rattle.input.specs.Counts.{IsPrefixLen};
+
+use std::io::{Read, Stdin};
 
 // What standard input gave: how many bytes were read, and whether a read failed.
 #[derive(Drop)]
@@ -11,20 +13,26 @@ pub struct Input {
 }
 
 // Reads standard input until the buffer is full, the input ends or a read fails.
-pub fn read_input(buf: &mut [u8]) -> Input
+pub fn read_input(mut stdin: Stdin, buf: &mut [u8]) -> Input
     ensures { IsPrefixLen result.size buf.new }
 {
     let mut done: usize = 0;
     while done < buf.len() {
-        let got = libc::read(STDIN_FILENO, &mut buf[done..]);
-        let more = io::count(got, &buf[done..]);
-        if more == 0 {
-            return Input {
-                size: done,
-                failed: got < 0,
-            };
+        match stdin.read(&mut buf[done..]) {
+            Ok(0) => {
+                return Input {
+                    size: done,
+                    failed: false,
+                };
+            }
+            Ok(more) => done += more,
+            Err(_) => {
+                return Input {
+                    size: done,
+                    failed: true,
+                };
+            }
         }
-        done += more;
     }
     Input {
         size: done,

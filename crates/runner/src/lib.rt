@@ -20,7 +20,7 @@ use table::scope::size;
 use table::{Checked, check};
 
 // How far a run came: the bytes read, the threads started and the locks made.
-#[derive(Drop)]
+#[derive(Clone, Copy)]
 pub struct Extent {
     pub read: usize,
     pub threads: usize,
@@ -30,7 +30,7 @@ pub struct Extent {
 // What running a table under a schedule answers: the number of a refusal of its check; or, with how far the run came,
 // that no thread is left, that some are and all of them wait, that the schedule is at its end, that a byte names a
 // thread that was not started, or that a step is beyond a limit.
-#[derive(Drop)]
+#[derive(Clone, Copy)]
 pub enum Ran {
     Refused(u64),
     Ended(Extent),
@@ -51,7 +51,7 @@ pub struct Report {
 }
 
 // What a desk has after a run: the answer, and its records.
-#[derive(Drop)]
+#[derive(Clone, Copy)]
 pub struct Desk {
     pub ran: Ran,
     pub records: [Thread; MOST_THREADS],

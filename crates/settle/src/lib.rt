@@ -1,4 +1,6 @@
 // What is worked out in a body; rows worked out until none is due; and what goes before that, for the crates above.
+#![tactic(auto)]
+
 ghost use Rattle.settle.specs.Bodies.{BodyReady, Works, RowReady, Improves, Started, Settles};
 
 pub mod due;

@@ -1,6 +1,7 @@
 // Judges the handler table on standard input and writes its listing. Everything that matters is in the libraries.
+#![tactic(auto)]
+
 use input::read_input;
-use libc::{STDERR_FILENO, STDOUT_FILENO};
 use listing::LONGEST;
 use table::limits::{MOST_BYTES, MOST_ROUTINES, ROW_BYTES};
 
@@ -12,25 +13,22 @@ const READ_LIMIT: usize = 3 + MOST_ROUTINES + MOST_BYTES + 1;
 const MODEL_BYTES: usize = ROW_BYTES * MOST_ROUTINES;
 
 // Writes the listing of a table, or says that there is no writing it.
-fn judge(table: &[u8]) {
+fn judge(rt: &(impl Print + Eprint), table: &[u8]) {
     let mut model = [0u8; MODEL_BYTES];
     let mut text = [0u8; LONGEST];
     let size = listing::list(table, &mut model, &mut text);
-    if !io::write_all(STDOUT_FILENO, &text[..size]) {
-        io::write_all(
-            STDERR_FILENO,
-            b"vangpear: standard output cannot be written\n",
-        );
+    if rt.write_all(&text[..size]).is_err() {
+        let _ = rt.eprintln("vangpear: standard output cannot be written");
     }
 }
 
-fn main() {
+fn main(rt: HostRuntime) {
     let mut table = [0u8; READ_LIMIT];
-    let input = read_input(&mut table);
+    let input = read_input(rt.stdin(), &mut table);
     if input.failed {
-        io::write_all(STDERR_FILENO, b"vangpear: standard input cannot be read\n");
+        let _ = rt.eprintln("vangpear: standard input cannot be read");
         return;
     }
     let n = input.size;
-    judge(&table[..n]);
+    judge(&rt, &table[..n]);
 }

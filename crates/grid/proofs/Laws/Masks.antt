@@ -1,6 +1,7 @@
 -- The bits of masks: what `|`, `^`, a power of two and a product with one bit have.
 use Rattle.std.specs.Prelude.{◌≡◌, refl, ◌≢◌, ◌⊎◌, ℕ, zero, suc, ◌+◌, ◌-◌, ◌*◌, ◌/◌, ◌%◌, ◌^◌, ◌<◌, ◌≤◌, max}
-use Rattle.std.proofs.Common.{sym, ap, ◌∙◌, inl, inr, ⊎_elim, arith, div-lt_iff_lt-mul, div-one, pow-suc, one-mul, zero-mul, pow_pos}
+use Rattle.std.proofs.Common.{sym, ap, ◌∙◌, inl, inr, ⊎_elim, arith, div-lt_iff_lt-mul, div-one, pow-suc, one-mul, zero-mul}
+use Rattle.std.proofs.Common.{pow_pos}
 use Rattle.std.proofs.Common.{pow-add, pow_mono, shl_exact, shr-shr}
 use Rattle.std.proofs.Math.Decide.{dec_lt, ℕ_discrete}
 use Rattle.std.proofs.Math.Nat.{div-eq_of_lt, zero-div}

@@ -79,11 +79,11 @@ entered-requires-in-4 c =
 
 pub overflow_add-p : goal.overflow_add-p
 overflow_add-p c =
-    let k = c.requires.0.names NEW c.in_1.is in search rules
+    let k = c.requires.0.names NEW c.in-1.is in search rules
 
 pub with_local-requires : goal.with_local-requires
 with_local-requires c =
-    c.requires.0.names NEW c.in_1.is
+    c.requires.0.names NEW c.in-1.is
 
 pub bounds-s-i-in-7 : goal.bounds-s-i-in-7
 bounds-s-i-in-7 c =
@@ -137,7 +137,7 @@ returns-in-1 c =
     let a = c.args in
     let w : Walk = walk_of a.p a.holders.now a.threads.now a.nests.now a.roots.now in
     let g = c.requires.1 in
-    let e = c.in_1.is in
+    let e = c.in-1.is in
     let p = past_at a.ks.now a.s.now w c.past.result 1 c.past.ensures e in
     let t = top_at a.s.now w c.level.result 1 c.level.ensures e in
     (rw (p, t) at (c.with_local.ensures a.holders.now a.threads.now a.nests.now))

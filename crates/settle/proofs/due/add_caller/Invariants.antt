@@ -1,0 +1,9 @@
+-- `add_caller` meets its contract: each turn adds the routine to the callers of one that is left of the mask.
+use Rattle.settle.proofs.DueLaws.{Adding}
+use Rattle.settle.proofs.due.add_caller.Given as goal
+
+abbrev pub invariant-loop-left : goal.invariant-loop-left
+invariant-loop-left l = Adding l.initial.callers l.mask l.r l.callers l.left
+
+abbrev pub decreases-loop-left : goal.decreases-loop-left
+decreases-loop-left l = l.left
