@@ -36,6 +36,7 @@ odd_has : (m : ℕ) → Has m 0 → m % 2 ≡ 1
 odd_has m h = ap (λ (x : ℕ). x % 2) (sym (div-one m)) ∙ h
 
 in_suc : (j : ℕ) (l : List ℕ) → In j l → In (suc j) (map suc l)
+in_suc j [] x' = elim x' [ ]
 in_suc j (x ∷ l) (inl e) = inl (ap suc e)
 in_suc j (x ∷ l) (inr i) = inr (in_suc j l i)
 

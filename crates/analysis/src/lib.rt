@@ -1,4 +1,6 @@
 // The analysis: the least model of a table in a lent buffer, the verdict, the share, and the number of rounds.
+#![tactic(auto)]
+
 ghost use Rattle.std.specs.Prelude.{◌≡◌, ◌<◌};
 ghost use Rattle.table.specs.Check.{check_table};
 ghost use Rattle.table.specs.Answer.{check_number, checked_of};

@@ -1,5 +1,6 @@
 -- The listing of a table: lines of words and decimal numbers, from the answer and the model.
-use Rattle.std.specs.Prelude.{◌≡◌, cond, List, [], ◌∷◌, ◌++◌, ℕ, zero, suc, ◌+◌, ◌*◌, ◌/◌, ◌%◌, eqb, ltb, length, get_or, take, drop}
+use Rattle.std.specs.Prelude.{◌≡◌, cond, List, [], ◌∷◌, ◌++◌, ℕ, zero, suc, ◌+◌, ◌*◌, ◌/◌, ◌%◌, eqb, ltb, length, get_or}
+use Rattle.std.specs.Prelude.{take, drop}
 use Rattle.table.specs.Constants.{most_routines, row_names, row_cells, row_bytes}
 use Rattle.analysis.specs.Answer.{Analysed}
 use Rattle.analysis.specs.declared.Share.{Share}

@@ -1,4 +1,6 @@
 // The listing of a table: its lines of words and decimal numbers, written into a lent buffer.
+#![tactic(auto)]
+
 ghost use Rattle.std.specs.Prelude.{◌≡◌, ◌<◌, ◌≤◌, get_or};
 ghost use Rattle.table.specs.Constants.{most_routines};
 ghost use Rattle.analysis.specs.Answer.{Short};

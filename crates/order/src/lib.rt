@@ -1,5 +1,7 @@
 // The order in which routines are first met, reading bodies in new-number order from routine 0, and how long the bodies
 // of these routines are without their mirrors.
+#![tactic(auto)]
+
 ghost use Rattle.std.specs.Prelude.{◌≡◌, ◌<◌, length};
 ghost use Rattle.table.specs.Constants.{most_routines};
 ghost use Rattle.order.specs.Standing.{HeldAt, end_of};

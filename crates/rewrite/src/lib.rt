@@ -1,4 +1,6 @@
 // One body, written as in the canonical table: mirrors resolved and left out, locals and calls renumbered.
+#![tactic(auto)]
+
 ghost use Rattle.std.specs.Prelude.{◌+◌, ◌<◌, ◌≤◌, length, get_or};
 ghost use Rattle.table.specs.Constants.{most_names, most_bytes};
 ghost use Rattle.append.specs.Appends.{Appends};

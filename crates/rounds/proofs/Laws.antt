@@ -7,6 +7,7 @@ pub mod Positive
 pub mod Steps
 pub mod Cycles
 pub mod Acyclic
+pub mod Bits
 pub mod Bound
 pub mod ChainRounds
 pub mod ChainTable

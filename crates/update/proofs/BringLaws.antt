@@ -1,6 +1,6 @@
 -- The answer, case by case: what is refused by comparing, what by the model, and what is brought up to date.
 use mathlib.Core.Path.{◌≡◌, refl, sym, ap, ◌∙◌}
-use mathlib.Core.Bool.{Bool, true, false, not}
+use mathlib.Core.Bool.{Bool, true, false}
 use mathlib.Core.List.{List}
 use Prim.Native.Nat.{ℕ, ◌+◌, ◌-◌, ◌*◌, ◌≤◌, ◌<◌}
 use native.Mathlib.Omega.{arith}
@@ -23,7 +23,7 @@ use Rattle.update.specs.declared.Updated.{Updated}
 use Rattle.update.specs.declared.Updated.TheVariants.{Done, Refused}
 use Rattle.update.proofs.Laws.Fits.{formed_of_fits, fits_of_formed, shaped_of_formed}
 use Rattle.update.proofs.Laws.Reworked.{up_to_date}
-use Rattle.update.proofs.FitLaws.{told_not, told_so}
+use Rattle.update.proofs.FitLaws.{told_true, told_false}
 
 -- the second program was surveyed
 module _ (ks s t starts calls : List ℕ) (r : ℕ) (listed : r < length ks) where
@@ -44,7 +44,7 @@ module _ (ks s t starts calls : List ℕ) (r : ℕ) (listed : r < length ks) whe
 
   module _ (before : List ℕ) (c : Bool) (compares : Compares ks s t (get_or starts r 0) r c) where
     -- the comparison failed
-    pub brings_other : not c ≡ true → BringsKnown ks s t starts calls r before before (Refused other_table)
+    pub brings_other : c ≡ false → BringsKnown ks s t starts calls r before before (Refused other_table)
     brings_other e P Q p k = record {
       refused_other = λ n. (refl, refl);
       refused_model = λ o n. absurd (differ o);
@@ -52,23 +52,23 @@ module _ (ks s t starts calls : List ℕ) (r : ℕ) (listed : r < length ks) whe
     }
       where
         differ : ¬ OnlyBody P Q r
-        differ = told_not c (OnlyBody P Q r) e (compares P Q p (body_of Q k))
+        differ = told_false c (OnlyBody P Q r) e (compares P Q p (body_of Q k))
 
-    module _ (e : not c ≡ false) (d : Bool) (fits : Answers d (RowsFit ks before)) where
+    module _ (e : c ≡ true) (d : Bool) (fits : Answers d (RowsFit ks before)) where
       only : (P Q : Program) → Holds P ks s → Known Q ks t starts calls → OnlyBody P Q r
-      only P Q p k = told_so c (OnlyBody P Q r) e (compares P Q p (body_of Q k))
+      only P Q p k = told_true c (OnlyBody P Q r) e (compares P Q p (body_of Q k))
 
       -- the model is not well formed
-      pub brings_bad : not d ≡ true → BringsKnown ks s t starts calls r before before (Refused bad_model)
+      pub brings_bad : d ≡ false → BringsKnown ks s t starts calls r before before (Refused bad_model)
       brings_bad f P Q p k = record {
         refused_other = λ n. absurd (n (only P Q p k));
         refused_model = λ o n. (refl, refl);
-        done = λ o w. absurd (told_not d (RowsFit ks before) f fits (fits_of_formed P ks s p before w));
+        done = λ o w. absurd (told_false d (RowsFit ks before) f fits (fits_of_formed P ks s p before w));
       }
 
-      module _ (f : not d ≡ false) (callers : List ℕ) (turned : Callers calls callers) where
+      module _ (f : d ≡ true) (callers : List ℕ) (turned : Callers calls callers) where
         formed : (P : Program) (u : List ℕ) → Holds P ks u → Formed P before
-        formed P u p = formed_of_fits P ks u p before (told_so d (RowsFit ks before) f fits)
+        formed P u p = formed_of_fits P ks u p before (told_true d (RowsFit ks before) f fits)
 
         shaped : (Q : Program) → Known Q ks t starts calls → Shaped (length Q) before
         shaped Q k = shaped_of_formed Q ks t k.holds before (formed Q t k.holds)
@@ -110,7 +110,7 @@ few_calls ks s t starts calls r model can =
     (omega arith, omega arith)
 
 -- the parameter counts differ
-pub brings_differ : (ks s ls t : List ℕ) (r : ℕ) (before : List ℕ) (c : Bool) → Answers c (ks ≡ ls) → not c ≡ true
+pub brings_differ : (ks s ls t : List ℕ) (r : ℕ) (before : List ℕ) (c : Bool) → Answers c (ks ≡ ls) → c ≡ false
     → Brings ks s ls t r before before (Refused other_table)
 brings_differ ks s ls t r before c told e P Q p q = record {
   refused_other = λ n. (refl, refl);
@@ -120,7 +120,7 @@ brings_differ ks s ls t r before c told e P Q p q = record {
   where
     differ : ¬ OnlyBody P Q r
     differ o =
-        told_not c (ks ≡ ls) e told
+        told_false c (ks ≡ ls) e told
         (p.params_are ∙ (bytes_of_only_body P Q p.limits q.limits r o).same_counts ∙ sym q.params_are)
 
 -- two tables that were accepted

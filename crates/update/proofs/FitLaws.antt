@@ -1,7 +1,7 @@
 -- Whether rows are ones that their routines may have, cell by cell and row by row; what tests tell.
 use mathlib.Core.Path.{◌≡◌, refl, sym, ap, ◌∙◌}
 use mathlib.Core.Logic.{◌⊎◌, inl, inr}
-use mathlib.Core.Bool.{Bool, true, false, not, ◌||◌, cond}
+use mathlib.Core.Bool.{Bool, true, false, ◌||◌, cond}
 use mathlib.Core.List.{List}
 use Prim.Native.Nat.{ℕ, ◌+◌, ◌*◌, ◌/◌, ◌%◌, max, ◌≤◌, ◌<◌}
 use native.Mathlib.Omega.{arith}
@@ -102,16 +102,7 @@ one_more_row ks model n f c r l = go (ℕ_discrete r n)
     go (yes e) = rw e c
     go (no ne) = f r (omega arith)
 
--- what a test tells, after `!`
-pub told_not : (c : Bool) (Q : Type 0) → not c ≡ true → Answers c Q → Q → ⊥
-told_not true Q e t q = let z : ◌≡◌ {A = ℕ} 0 1 = cc in omega arith
-told_not false Q e t q = t q
-
-pub told_so : (c : Bool) (Q : Type 0) → not c ≡ false → Answers c Q → Q
-told_so true Q e t = t
-told_so false Q e t = absurd (let z : ◌≡◌ {A = ℕ} 0 1 = cc in omega arith)
-
--- and where it is taken as it is
+-- what a test tells
 pub told_true : (c : Bool) (Q : Type 0) → c ≡ true → Answers c Q → Q
 told_true true Q e t = t
 told_true false Q e t = absurd (let z : ◌≡◌ {A = ℕ} 0 1 = cc in omega arith)

@@ -1,5 +1,6 @@
 -- What the inner functions are given, and what they give.
-use Rattle.std.specs.Prelude.{◌≡◌, Bool, true, false, ◌||◌, cond, List, ℕ, suc, ◌+◌, ◌*◌, ◌/◌, ◌%◌, max, ◌≤◌, ◌<◌, eqb, ltb, length, get_or, take, drop}
+use Rattle.std.specs.Prelude.{◌≡◌, Bool, true, false, ◌||◌, cond, List, ℕ, suc, ◌+◌, ◌*◌, ◌/◌, ◌%◌, max, ◌≤◌, ◌<◌, eqb, ltb}
+use Rattle.std.specs.Prelude.{length, get_or, take, drop}
 use Rattle.table.specs.Constants.{row_names, row_cells, row_bytes}
 use Rattle.table.specs.Program.{Program}
 use Rattle.table.specs.Encoding.{encode_bodies}

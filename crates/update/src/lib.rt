@@ -1,4 +1,6 @@
 // One routine replaced: a model brought up to date from the old table, the new one, the routine and the old model.
+#![tactic(auto)]
+
 ghost use Rattle.table.proofs.Laws.Sections.{AcceptedAs};
 ghost use Rattle.update.specs.Answer.{Replaced, ReplacedAs, Fits};
 ghost use Rattle.update.specs.Parts.{CanBringKnown, BringsKnown, CanBring, Brings, BringsAccepted};

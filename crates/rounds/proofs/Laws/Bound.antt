@@ -1,5 +1,5 @@
 -- There are at most 148 × n + 1 rounds: each but the last sets one of the 49 × 3 label bits of a row, or its last byte.
-use Rattle.std.specs.Prelude.{◌≡◌, refl, ◌≢◌, not, ◌&&◌, List, [], ◌∷◌, ℕ, zero, suc, ◌+◌, ◌*◌, ◌≤◌, ◌<◌, eqb, leb, length}
+use Rattle.std.specs.Prelude.{◌≡◌, refl, ◌≢◌, List, ℕ, zero, suc, ◌+◌, ◌*◌, ◌≤◌, ◌<◌, length}
 use Rattle.std.proofs.Common.{inl, inr, arith, length-append}
 use Rattle.table.specs.Constants.{row_names}
 use Rattle.table.specs.Program.{Program}
@@ -8,32 +8,12 @@ use Rattle.table.specs.Encoding.{WithinLimits}
 use Rattle.table.proofs.Laws.Formed.{well_formed}
 use Rattle.rules.specs.Label.{Label, own, forked, unknown, several, cut}
 use Rattle.rules.proofs.Laws.Tests.{both, equal, at_most, negated}
-use Rattle.rules.proofs.Laws.Lists.{up_to, in_up_to, gather, gathered, only, guarded}
+use Rattle.rules.proofs.Laws.Lists.{up_to, in_up_to, gather, gathered, guarded}
 use Rattle.rounds.specs.Rounds.{RowsAfter, RingAfter, Changeless, Rounds, most_changes}
+use Rattle.rounds.proofs.Laws.Bits.{Bit, cell, last, lowest, three_bits, cell_bits, row_bits}
 use Rattle.rounds.proofs.Laws.Steps.{in_model, rows_add, rings_add, all_same}
 use Rattle.rounds.proofs.Laws.Counts.{changes_le}
 use Rattle.rounds.proofs.Laws.Positive.{model_positive}
-
--- the bits of the rows: a label of a pair, or the last byte
-data Bit : Type 0 where
-  cell : ℕ → ℕ → ℕ → Label → Bit
-  last : ℕ → Bit
-
--- the lowest name that is the second end of a pair
-abbrev lowest : ℕ
-lowest = 1
-
--- the label bits of a pair
-abbrev three_bits : ℕ → ℕ → ℕ → List Bit
-three_bits r a b = cell r a b own ∷ cell r a b unknown ∷ cell r a b several ∷ []
-
--- those that a row may have: the names of the pair differ, and the second is not below the lowest
-abbrev cell_bits : ℕ → ℕ → ℕ → List Bit
-cell_bits r a b = only (not (eqb a b) && leb lowest b) (three_bits r a b)
-
--- and with the last byte
-abbrev row_bits : ℕ → List Bit
-row_bits r = last r ∷ gather (λ a. gather (cell_bits r a) (up_to row_names)) (up_to row_names)
 
 -- the rows of n routines have 148 × n bits
 rows_long : (n : ℕ) → length (gather row_bits (up_to n)) ≡ most_changes * n
