@@ -10,8 +10,8 @@ use Rattle.rules.specs.Model.{bind}
 use Rattle.rules.specs.Verdict.{Reached}
 use Rattle.rules.proofs.Laws.Nest.{by_bind}
 use Rattle.rules.proofs.Laws.Verdict.{reached_within}
-use Rattle.rules.proofs.Laws.Before104.{resolved as rooted, resolved_routine as rootedRoutine}
-use Rattle.rules.proofs.Laws.Before104.{resolved_program as rootedProgram}
+use Rattle.rules.proofs.Laws.Before104.{resolved as rooted, resolved_routine as rooted_routine}
+use Rattle.rules.proofs.Laws.Before104.{resolved_program as rooted_program}
 use Rattle.canon.specs.Canonical.{news, plain, resolved, Alike}
 use Rattle.canon.proofs.Laws.Differ.{differ_in_mirrors}
 
@@ -128,15 +128,15 @@ is_rooted ρ (call r xs c) = ap (call r (map ρ xs)) (is_rooted ρ c)
 is_rooted ρ (mirror x y c) = is_rooted (bind x (ρ y) ρ) c
 
 -- a program and the one with every MIRROR left out, and the root of each name in its place, are alike
-pub mirrors_left_out : (P : Program) → WellFormed P → Alike P (rootedProgram P)
-mirrors_left_out P ok = differ_in_mirrors P (rootedProgram P) one
+pub mirrors_left_out : (P : Program) → WellFormed P → Alike P (rooted_program P)
+mirrors_left_out P ok = differ_in_mirrors P (rooted_program P) one
   where
-    there : (r : ℕ) → get_or (rootedProgram P) r empty ≡ rootedRoutine (get_or P r empty)
-    there r = get_or-map rootedRoutine P r empty
+    there : (r : ℕ) → get_or (rooted_program P) r empty ≡ rooted_routine (get_or P r empty)
+    there r = get_or-map rooted_routine P r empty
 
     one : (r : ℕ) → Reached P r
-        → (params P r ≡ params (rootedProgram P) r)
-        × (resolved (get_or P r empty) ≡ resolved (get_or (rootedProgram P) r empty))
+        → (params P r ≡ params (rooted_program P) r)
+        × (resolved (get_or P r empty) ≡ resolved (get_or (rooted_program P) r empty))
     one r w =
         let l = reached_within P ok r w in
         let k = params P r in

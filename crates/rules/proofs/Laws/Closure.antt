@@ -3,7 +3,7 @@ use Rattle.std.specs.Prelude.{ℕ}
 use Rattle.table.specs.Program.{Program, body}
 use Rattle.rules.specs.Label.{Label, combine}
 use Rattle.rules.specs.Model.{Kept, at_head, Recorded, Model}
-use Rattle.rules.specs.Derived.{Closed, given, follows}
+use Rattle.rules.specs.Derived.{Closed, given}
 
 -- the kept pairs that the body of routine r records
 abbrev pub KeptBy : Program → ℕ → ℕ → ℕ → Label → Type 0

@@ -1,5 +1,6 @@
 -- The verdict and the share by computation: from the model as a list and the reached routines as a list.
-use Rattle.std.specs.Prelude.{◌≡◌, refl, ◌⊎◌, Bool, true, false, not, ◌&&◌, ◌||◌, List, [], ◌∷◌, ◌++◌, ℕ, suc, ◌+◌, ◌*◌, ◌≤◌, ◌<◌, T, eqb, leb, length}
+use Rattle.std.specs.Prelude.{◌≡◌, refl, ◌⊎◌, Bool, true, false, not, ◌&&◌, ◌||◌, List, [], ◌∷◌, ◌++◌, ℕ, suc, ◌+◌, ◌*◌, ◌≤◌}
+use Rattle.std.specs.Prelude.{◌<◌, T, eqb, leb, length}
 use Rattle.std.proofs.Common.{inl, inr, arith}
 use Rattle.table.specs.Program.{Code, end, new, lock, fork, choice, call, mirror, Program, body}
 use Rattle.table.specs.WellFormed.{In, NoDup}

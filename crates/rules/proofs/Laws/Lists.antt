@@ -1,5 +1,6 @@
 -- Lists that are computed, with the fact that an entry of each stands for, and the closing of a list under a step.
-use Rattle.std.specs.Prelude.{◌≡◌, refl, ◌⊎◌, Bool, true, false, not, cond, ◌&&◌, ◌||◌, List, [], ◌∷◌, ◌++◌, ℕ, zero, suc, ◌<◌, T, length}
+use Rattle.std.specs.Prelude.{◌≡◌, refl, ◌⊎◌, Bool, true, false, not, cond, ◌&&◌, ◌||◌, List, [], ◌∷◌, ◌++◌, ℕ, zero, suc}
+use Rattle.std.specs.Prelude.{◌<◌, T, length}
 use Rattle.std.proofs.Common.{ap, inl, inr, le_of_suc-le-suc, not-suc-le-zero, eq-or-lt_of_le}
 use Rattle.table.specs.WellFormed.{In}
 use Rattle.rules.proofs.Laws.Tests.{Decides, either, negated, halves}

@@ -1,5 +1,5 @@
 -- Worked runs under a schedule: each with how it ends, computed. They try every clause, each limit and one beyond.
-use Rattle.std.specs.Prelude.{◌≡◌, refl, List, [], ◌∷◌, ◌++◌, map, ℕ, ◌+◌, replicate}
+use Rattle.std.specs.Prelude.{◌≡◌, refl, List, [], ◌∷◌, ◌++◌, map, ℕ, replicate}
 use Rattle.std.proofs.Math.Decide.{ℕ_discrete}
 use Rattle.table.specs.Program.{Code, end, new, lock, fork, choice, call, mirror, Program}
 use Rattle.run.specs.Decide.{elsewhere?, some?, in?}

@@ -1,6 +1,7 @@
 -- What a run under a schedule comes to: the state of document 01's run after the turns of the bytes read, and what each
 -- way to stop means there.
-use Rattle.std.specs.Prelude.{◌≡◌, refl, Bool, true, false, cond, List, [], ◌∷◌, map, ℕ, suc, ◌+◌, ◌<◌, ◌≤◌, ◌%◌, leb, length, take, drop}
+use Rattle.std.specs.Prelude.{◌≡◌, refl, Bool, true, false, cond, List, [], ◌∷◌, map, ℕ, suc, ◌+◌, ◌<◌, ◌≤◌, ◌%◌, leb}
+use Rattle.std.specs.Prelude.{length, take, drop}
 use Rattle.std.proofs.Common.{arith, ne_eqb, leb-true, leb-false}
 use Rattle.table.specs.Program.{Program}
 use Rattle.run.specs.Run.{State, start, thread, turn, run}

@@ -1,6 +1,8 @@
 -- A table that is accepted holds the bytes of the program, and the program keeps the rules.
-use Rattle.std.specs.Prelude.{◌≡◌, refl, Bool, true, false, cond, not, ◌&&◌, ◌||◌, List, [], ◌∷◌, ◌++◌, leb, eqb, ltb, length, get_or, take, drop}
-use Rattle.std.proofs.Common.{sym, ap, subst, ◌∙◌, inl, inr, append_assoc, arith, take-append-drop, length-drop, length-take-le, get_or-drop, leb-true, leb-false, ltb-false, eqb-true}
+use Rattle.std.specs.Prelude.{◌≡◌, refl, Bool, true, false, cond, not, ◌&&◌, ◌||◌, List, [], ◌∷◌, ◌++◌, leb, eqb, ltb}
+use Rattle.std.specs.Prelude.{length, get_or, take, drop}
+use Rattle.std.proofs.Common.{sym, ap, subst, ◌∙◌, inl, inr, append_assoc, arith, take-append-drop, length-drop}
+use Rattle.std.proofs.Common.{length-take-le, get_or-drop, leb-true, leb-false, ltb-false, eqb-true}
 use Prim.Native.Nat.{ℕ, zero, suc, ◌+◌, ◌*◌, ◌-◌, ◌/◌, ◌%◌, ◌≤◌, ◌<◌}
 use Rattle.std.proofs.lemmas.Bool.{eqb-false, not-false}
 use Rattle.table.specs.Constants.{most_routines, most_params, most_bytes, most_open, most_locals, most_forks}

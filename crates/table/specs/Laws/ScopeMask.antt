@@ -1,5 +1,6 @@
 -- The names in scope as the bits of a number, as code keeps them.
-use Rattle.std.specs.Prelude.{◌≡◌, refl, Bool, true, false, cond, List, [], ◌∷◌, ℕ, zero, suc, ◌+◌, ◌*◌, ◌-◌, ◌/◌, ◌%◌, ◌^◌, ◌≤◌, ◌<◌, leb, eqb}
+use Rattle.std.specs.Prelude.{◌≡◌, refl, Bool, true, false, cond, List, [], ◌∷◌, ℕ, zero, suc, ◌+◌, ◌*◌, ◌-◌, ◌/◌, ◌%◌, ◌^◌}
+use Rattle.std.specs.Prelude.{◌≤◌, ◌<◌, leb, eqb}
 use Rattle.std.proofs.Common.{sym, ap, subst, ◌∙◌, pow-suc, mul_assoc, arith, le-leb, eq-eqb, ne_eqb, leb-true, leb-false}
 use Rattle.std.proofs.Math.Nat.{two-pow-succ, pow-le-pow_right, div-eq_of_lt, add-mul-div_left, div-eq_of_lt-le}
 use Rattle.std.proofs.Math.Decide.{dec_lt}
