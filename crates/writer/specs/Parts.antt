@@ -1,5 +1,5 @@
 -- What the functions that write the counts, the bodies and the whole table need and leave.
-use Rattle.std.specs.Prelude.{◌≡◌, List, [], ◌∷◌, ◌++◌, map, ℕ, ◌+◌, ◌≤◌, ◌<◌, length, get_or}
+use Rattle.std.specs.Prelude.{◌≡◌, List, [], ◌∷◌, ◌++◌, map, ℕ, ◌≤◌, ◌<◌, length, get_or}
 use Rattle.table.specs.Constants.{most_routines, END}
 use Rattle.table.specs.Program.{Program, params, body}
 use Rattle.table.specs.Check.{accepted, check_table}

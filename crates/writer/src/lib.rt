@@ -1,4 +1,6 @@
 // The writer of canonical tables: one way to write a table.
+#![tactic(auto)]
+
 ghost use Rattle.table.proofs.Laws.Sections.{Held, AcceptedAs};
 ghost use Rattle.append.specs.Appends.{Appends};
 ghost use Rattle.order.specs.Standing.{HeldAt};
