@@ -1,2 +1,1 @@
 mod NeverLaws
-mod PassOnLaws

@@ -1,4 +1,6 @@
 // The public calls, on whatever is lent: one that had a precondition, or that promised less, would be refused here.
+#![tactic(auto)]
+
 ghost use Rattle.std.specs.Prelude.{◌≡◌, ◌≤◌, false};
 ghost use Rattle.table.specs.Check.{check_table};
 ghost use Rattle.table.specs.Answer.{check_number, checked_of};
