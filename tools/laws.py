@@ -3,15 +3,19 @@
 
 usage: python3 tools/laws.py        at the top of the repository, after tools/respell.py
 
-An edit of a definition counts as refused only where what it breaks stands in proofs/. A module that a contract or a
-definition cites stays in specs/Laws. Statements and proofs stay; paths that name a module follow it. A second run
-changes nothing.
+An edit of a definition counts as refused only where what it breaks stands in proofs/. What a contract or a definition
+cites stays in specs/Laws: whole modules, and the definitions of two modules that have theorems, too. Statements and
+proofs stay; paths that name a module follow it. A second run changes nothing.
 """
 
 import glob
 import os
 import re
 import shutil
+
+# Modules of definitions alone, and definitions of others, that contracts of other crates cite.
+KEPT = {"table": {"Fine"}}
+DEFINED = {("table", "Sections"): ["Holds", "Held", "AcceptedAs"], ("rounds", "Steps"): ["Steady", "SameRow"]}
 
 CRATES = "analysis canon grid listing rounds rules run runner schedule table update worked writer".split()
 
@@ -33,7 +37,7 @@ def cited(crate, text):
 def staying(crate, modules):
     """The modules that contracts and definitions cite, with those that these rest on."""
     top = f"crates/{crate}"
-    todo = set()
+    todo = set(KEPT.get(crate, ()))
     for path in glob.glob(f"{top}/src/**/*.rt", recursive=True) + glob.glob(f"{top}/specs/*.antt"):
         todo |= cited(crate, read(path))
     stay = set()
@@ -85,19 +89,62 @@ def move(crate):
     return set(gone)
 
 
+def split(crate, module, names):
+    """Has the definitions of a module in specs/Laws, and its theorems in proofs/Laws."""
+    top, here = f"crates/{crate}", f"crates/{crate}/proofs/Laws/{module}.antt"
+    text = read(here)
+    blocks = []
+    for name in names:
+        found = re.search(rf"(?m)(?:^--.*\n)*^(?:abbrev pub|pub record) {name}\b.*\n(?:\S.*\n|[ \t]+.*\n)*", text)
+        if found:
+            blocks.append(found[0])
+            text = text.replace(found[0] + "\n", "", 1)
+    if not blocks:
+        return
+    lines = text.split("\n")
+    first = next(i for i, line in enumerate(lines) if line.startswith("use "))
+    uses = [line for line in lines if line.startswith("use ") and f"{crate}.proofs." not in line]
+    lines.insert(first, f"use Rattle.{crate}.specs.Laws.{module}.{{{', '.join(names)}}}")
+    write(here, "\n".join(lines))
+    os.makedirs(f"{top}/specs/Laws", exist_ok=True)
+    write(f"{top}/specs/Laws/{module}.antt", "\n".join([*lines[:first], *uses, "", "\n".join(blocks)]))
+    node = f"{top}/specs/Laws.antt"
+    if not os.path.exists(node):
+        write(node, "-- What contracts of inner functions cite.\n")
+        write(f"{top}/specs/Lib.antt", read(f"{top}/specs/Lib.antt").rstrip("\n") + "\npub mod Laws\n")
+    write(node, read(node) + f"pub mod {module}\n")
+
+
+def parted(text, crate, module, names):
+    """Imports of a module that is split name the definitions where they are."""
+    def one(m):
+        cited = [it.strip() for it in m[3].split(",")]
+        each = [(part, [it for it in cited if (it.split(" as ")[0] in names) == (part == "specs")]) for part in ("specs", "proofs")]
+        return "\n".join(f"{m[1]}Rattle.{crate}.{part}.Laws.{module}.{{{', '.join(its)}}}{m[4]}" for part, its in each if its)
+    return re.sub(rf"(?m)^((?:pub |ghost )?use )Rattle\.{crate}\.(specs|proofs)\.Laws\.{module}\.\{{([^}}]*)\}}(;?)$", one, text)
+
+
 def main():
     moved = {crate: move(crate) for crate in CRATES if os.path.isdir(f"crates/{crate}")}
     for crate in moved:  # what had moved before is found by where it stands
         moved[crate] |= {os.path.basename(p)[:-5] for p in glob.glob(f"crates/{crate}/proofs/Laws/*.antt")}
+    for (crate, module), names in DEFINED.items():
+        split(crate, module, names)
     for path in glob.glob("crates/*/*/**/*", recursive=True):
         if not path.endswith((".antt", ".rt", ".edit")) or "/out/" in path:
             continue
         text = read(path)
+        split_there = {crate: [m for c, m in DEFINED if c == crate] for crate in moved}
         now = re.sub(
             r"Rattle\.(\w+)\.specs\.Laws\.(\w+)",
-            lambda m: f"Rattle.{m[1]}.proofs.Laws.{m[2]}" if m[2] in moved.get(m[1], ()) else m[0],
+            lambda m: f"Rattle.{m[1]}.proofs.Laws.{m[2]}"
+            if m[2] in moved.get(m[1], ()) and m[2] not in split_there.get(m[1], ())
+            else m[0],
             text,
         )
+        if not any(path == f"crates/{c}/{part}/Laws/{m}.antt" for c, m in DEFINED for part in ("specs", "proofs")):
+            for (crate, module), names in DEFINED.items():
+                now = parted(now, crate, module, names)
         if path.endswith(".edit"):
             crate = path.split("/")[1]
             now = re.sub(

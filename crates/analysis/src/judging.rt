@@ -10,7 +10,7 @@ use settle::reach::reached;
 use table::limits::{MOST_ROUTINES, ROW_BYTES, ROW_CELLS};
 
 // The verdict, the share and the number of rounds of one table.
-#[derive(Drop)]
+#[derive(Clone, Copy)]
 pub struct Judgement {
     pub verdict: Verdict,
     pub share: Share,

@@ -22,21 +22,21 @@ use table::{Checked, check};
 pub const SHORT_BUFFER: u64 = 15;
 
 // A ring: the routine and the name.
-#[derive(Drop)]
+#[derive(Clone, Copy)]
 pub struct RingPlace {
     pub routine: u64,
     pub name: u64,
 }
 
 // What is said of a table that is accepted.
-#[derive(Drop)]
+#[derive(Clone, Copy)]
 pub enum Verdict {
     Clear,
     Ring(RingPlace),
 }
 
 // How many of the routines that calls reach are without a ring: the whole percentage, the remainder, and of how many.
-#[derive(Drop)]
+#[derive(Clone, Copy)]
 pub struct Share {
     pub percent: u64,
     pub remainder: u64,
@@ -44,7 +44,7 @@ pub struct Share {
 }
 
 // What the analysis answers: the verdict, the share and the number of rounds, or the number of a refusal.
-#[derive(Drop)]
+#[derive(Clone, Copy)]
 pub enum Answer {
     Judged(Verdict, Share, u64),
     Refused(u64),

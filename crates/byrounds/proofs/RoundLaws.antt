@@ -19,7 +19,8 @@ use Rattle.rows.specs.Laws.Cells as Cells
 use Rattle.rows.specs.Laws.Fixpoint.{calls_only}
 use Rattle.rounds.specs.Rounds.{PairsIn, RowsAfter, RingAfter, Changeless}
 use Rattle.rounds.proofs.Laws.LeastGiven.{Within, derived_mono}
-use Rattle.rounds.proofs.Laws.Steps.{Steady, SameRow, adds, rows_add, rings_add, none_beyond, steady_same}
+use Rattle.rounds.specs.Laws.Steps.{Steady, SameRow}
+use Rattle.rounds.proofs.Laws.Steps.{adds, rows_add, rings_add, none_beyond, steady_same}
 use Rattle.settle.specs.Settle.{WorkedOut, Improved}
 use Rattle.byrounds.specs.Round.{CellsAre, RowIs, NamedIn, At, SameCells}
 

@@ -15,7 +15,8 @@ use Rattle.grid.specs.Rows.{Has, Bits}
 use Rattle.grid.proofs.Laws.Masks.{has_zero}
 use Rattle.rows.specs.Model.{ShapedRow, Shaped}
 use Rattle.rounds.specs.Rounds.{Changeless}
-use Rattle.rounds.proofs.Laws.Steps.{SameRow, steady_same}
+use Rattle.rounds.specs.Laws.Steps.{SameRow}
+use Rattle.rounds.proofs.Laws.Steps.{steady_same}
 use Rattle.settle.specs.Due.{Highest}
 use Rattle.settle.specs.Settle.{Improved}
 use Rattle.settle.specs.Bodies.{BodyOf, RowReady, Improves}

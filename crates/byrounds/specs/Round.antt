@@ -3,13 +3,13 @@
 use Rattle.std.specs.Prelude.{◌≡◌, ◌≢◌, Bool, true, false, List, ℕ, suc, ◌+◌, ◌*◌, ◌^◌, ◌≤◌, ◌<◌, length, get_or}
 use Rattle.table.specs.Constants.{most_routines, most_names, row_cells, row_bytes}
 use Rattle.table.specs.Program.{Program}
-use Rattle.table.proofs.Laws.Sections.{Holds}
+use Rattle.table.specs.Laws.Sections.{Holds}
 use Rattle.rules.specs.Label.{Label, several}
 use Rattle.grid.specs.Rows.{Has}
 use Rattle.rows.specs.Bytes.{RowBits, RingByte}
 use Rattle.rows.specs.Model.{ShapedRow}
 use Rattle.rounds.specs.Rounds.{PairsIn, RowsAfter, RingAfter, Changeless, Rounds}
-use Rattle.rounds.proofs.Laws.Steps.{Steady, SameRow}
+use Rattle.rounds.specs.Laws.Steps.{Steady, SameRow}
 use Rattle.settle.specs.Due.{Below}
 use Rattle.settle.specs.Settle.{AllFresh}
 use Rattle.settle.specs.Bodies.{Linked, start_of}

@@ -28,7 +28,7 @@ fn improve(ks: &[u8], s: &[u8], at: usize, r: usize, old: &[u8], model: &mut [u8
 }
 
 // What a round gives: whether it changed anything, and the routines that have a cell which it changed, as bits.
-#[derive(Drop)]
+#[derive(Clone, Copy)]
 struct Effect {
     changed: bool,
     moved: u64,

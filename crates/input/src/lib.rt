@@ -6,7 +6,7 @@ ghost use Rattle.input.specs.Counts.{IsPrefixLen};
 use std::io::{Read, Stdin};
 
 // What standard input gave: how many bytes were read, and whether a read failed.
-#[derive(Drop)]
+#[derive(Clone, Copy)]
 pub struct Input {
     pub size: usize,
     pub failed: bool,

@@ -1,7 +1,7 @@
 -- The links of the sections of a table.
 use Rattle.std.specs.Prelude.{◌≡◌, List, ℕ, get_or}
 use Rattle.table.specs.Program.{Program}
-use Rattle.table.proofs.Laws.Sections.{Holds}
+use Rattle.table.specs.Laws.Sections.{Holds}
 use Rattle.links.specs.Lies.{section, Bodies}
 
 -- every body lies at its head, with its links; the first at the offset 0

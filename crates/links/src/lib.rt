@@ -4,7 +4,7 @@
 
 ghost use Rattle.std.specs.Prelude.{◌≡◌, ◌<◌, ◌+◌, ◌^◌, length};
 ghost use Rattle.table.specs.Constants.{most_routines, most_bytes};
-ghost use Rattle.table.proofs.Laws.Sections.{Held};
+ghost use Rattle.table.specs.Laws.Sections.{Held};
 ghost use Rattle.links.specs.Holding.{Links};
 ghost use Rattle.links.specs.Walks.{binds?, past_at, slot_by, link_by, moved_by, walk_after, links_after, going, begun};
 ghost use Rattle.links.specs.Walks.{Passable, Levelled, Moves, CanLink, Walks, Linked, Bounded};

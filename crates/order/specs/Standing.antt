@@ -3,7 +3,7 @@ use Rattle.std.specs.Prelude.{◌≡◌, ◌≢◌, cond, List, [], ◌∷◌, �
 use Rattle.table.specs.Constants.{most_names, NEW, LOCK, CALL, MIRROR, code}
 use Rattle.table.specs.Program.{Program}
 use Rattle.table.specs.WellFormed.{In}
-use Rattle.table.proofs.Laws.Sections.{Holds}
+use Rattle.table.specs.Laws.Sections.{Holds}
 use Rattle.settle.specs.Bodies.{start_of}
 use Rattle.order.specs.Items.{Item, mark, making, mirroring, locking, calling, item_bytes, flat}
 

@@ -16,7 +16,7 @@ const NOWHERE: u8 = MOST_ROUTINES as u8;
 
 // What is found of the order so far: how many routines were met, and how many bytes the bodies read so far have without
 // their mirrors.
-#[derive(Drop)]
+#[derive(Clone, Copy)]
 struct Found {
     count: usize,
     bytes: usize,
@@ -24,7 +24,7 @@ struct Found {
 
 // The routines in order, the place of each routine in that order, how many they are, and how many bytes their bodies
 // have without their mirrors.
-#[derive(Drop)]
+#[derive(Clone, Copy)]
 pub struct Order {
     pub routines: [u8; MOST_ROUTINES],
     pub places: [u8; MOST_ROUTINES],

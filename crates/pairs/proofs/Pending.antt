@@ -16,7 +16,7 @@ use Rattle.rules.specs.Number.{label_of}
 use Rattle.rules.specs.Verdict.{Calls}
 use Rattle.rules.specs.Derived.{Pairs, RecordedFrom}
 use Rattle.grid.specs.Rows.{Bits}
-use Rattle.table.proofs.Laws.Fine.{Calling, Uses}
+use Rattle.table.specs.Laws.Fine.{Calling, Uses}
 use Rattle.pairs.specs.Walks.{held_by, root_of}
 use Rattle.pairs.specs.Gains.{CallGives}
 

@@ -18,7 +18,7 @@ use Rattle.rules.specs.Model.{Kept, Place, at_head}
 use Rattle.rules.specs.Derived.{Pairs, RecordedFrom}
 use Rattle.grid.specs.Rows.{Has}
 use Rattle.grid.specs.Grid.{Pair, Small, AllKept}
-use Rattle.table.proofs.Laws.Fine.{Fine, IsBody}
+use Rattle.table.specs.Laws.Fine.{Fine, IsBody}
 use Rattle.pairs.specs.Walks.{Walk, Ready, held_by, byte_of, arg_of, holder_of, thread_of, nest_of, root_of, Selves}
 use Rattle.pairs.specs.Walks.{holder_under, holder_inside, start_walk, moved_walk, next_walk, LockReady}
 use Rattle.pairs.specs.Gains.{Gains, HoldersGive, CallGives, Low, LowAt, names_at, roots_at, CallReady}

@@ -18,7 +18,7 @@ use Rattle.rules.specs.Model.{at_head}
 use Rattle.rules.specs.Verdict.{Calls}
 use Rattle.grid.specs.Rows.{Has, Bits}
 use Rattle.grid.proofs.Laws.Masks.{has_zero, has_pow, pow_has, bits_self, bits_map}
-use Rattle.table.proofs.Laws.Fine.{Fine, IsBody}
+use Rattle.table.specs.Laws.Fine.{Fine, IsBody}
 use Rattle.pairs.specs.Walks.{IsOver, Passable, LevelReady, past_item, top_by}
 use Rattle.pairs.proofs.Pending.{Level, level, past, Left, InLeft, AtItem, CallIn, CallAt}
 use Rattle.pairs.specs.Parts.{Scans}

@@ -17,7 +17,7 @@ use Rattle.table.specs.Encoding.{encode}
 use Rattle.rules.specs.Label.{Label}
 use Rattle.rules.specs.Model.{Place, at_head}
 use Rattle.rules.specs.Derived.{Pairs}
-use Rattle.table.proofs.Laws.Fine.{Fine}
+use Rattle.table.specs.Laws.Fine.{Fine}
 use Rattle.pairs.specs.Walks.{Walk, byte_of, RoomAt, Ready, passed_by, walk_by, next_walk, past_by, past_item, top_by}
 use Rattle.pairs.specs.Walks.{Passable, LevelReady}
 use Rattle.pairs.proofs.Pending.{Alternative, other, Level, level, bytes, item_bytes, past, Levels, Left}

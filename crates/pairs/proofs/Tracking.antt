@@ -22,7 +22,7 @@ use Rattle.rules.proofs.Laws.Number.{label_of_number}
 use Rattle.rules.proofs.Laws.Nest.{by_nest, by_bind}
 use Rattle.grid.specs.Rows.{Has, Bits}
 use Rattle.grid.proofs.Laws.Masks.{bits_zero, bits_or, bits_one, bits_map}
-use Rattle.table.proofs.Laws.Fine.{Uses, Fine}
+use Rattle.table.specs.Laws.Fine.{Uses, Fine}
 use Rattle.pairs.specs.Walks.{Walk, held_by, byte_of, arg_of, holder_of, thread_of, nest_of, in_nest, with_root, root_of}
 use Rattle.pairs.specs.Walks.{SelvesTo, Selves, holder_under, start_walk, moved_walk, entered_walk, local_walk}
 use Rattle.pairs.specs.Walks.{next_walk, NamesFit, Ready}

@@ -7,7 +7,7 @@ use Rattle.rules.specs.Verdict.{Calls}
 use Rattle.rules.specs.Model.{at_head}
 use Rattle.rules.specs.Derived.{RecordedFrom}
 use Rattle.grid.specs.Rows.{Has}
-use Rattle.table.proofs.Laws.Fine.{Fine}
+use Rattle.table.specs.Laws.Fine.{Fine}
 use Rattle.pairs.specs.Gains.{Gains}
 use Rattle.rows.specs.Bytes.{RowBits}
 

@@ -5,7 +5,7 @@ ghost use Rattle.std.specs.Prelude.{◌≡◌, ◌⊎◌, ℕ, ◌*◌, ◌<◌,
 ghost use Rattle.table.specs.Constants.{most_routines, row_bytes};
 ghost use Rattle.grid.specs.Rows.{Has, Bits};
 ghost use Rattle.grid.specs.Grid.{Small};
-ghost use Rattle.table.proofs.Laws.Fine.{IsBody};
+ghost use Rattle.table.specs.Laws.Fine.{IsBody};
 ghost use Rattle.pairs.specs.Parts.{Scans, Records};
 
 mod calls;
@@ -17,7 +17,7 @@ use table::limits::{CALL, END, LOCK};
 use walk::{LEVELS, Place, holder_inside, level, over, past, selves, step};
 
 // What scanning a body gives: the offset after it, and the routines that its calls name, as bits.
-#[derive(Drop)]
+#[derive(Clone, Copy)]
 pub struct Scanned {
     pub next: usize,
     pub calls: u64,

@@ -16,7 +16,7 @@ pub const NOTHING: u8 = MOST_NAMES as u8;
 
 // A place of a body: the offset, how many FORK stand before it, the last name that the routine has so far, and the
 // innermost open level (the body is level 0).
-#[derive(Drop)]
+#[derive(Clone, Copy)]
 pub struct Place {
     pub at: usize,
     pub forks: u8,

@@ -14,7 +14,7 @@ use table::limits::{CALL, LOCK, MIRROR, MOST_NAMES, NEW};
 use table::scope::size;
 
 // A place of a body: the offset, the next name and the next new name, and the place in the text.
-#[derive(Drop)]
+#[derive(Clone, Copy)]
 pub struct Spot {
     pub at: usize,
     pub old: usize,

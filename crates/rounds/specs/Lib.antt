@@ -5,3 +5,4 @@ pub mod Rounds
 pub mod Chain
 pub mod Given
 pub mod OneBody
+pub mod Laws

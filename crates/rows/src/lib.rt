@@ -92,7 +92,7 @@ fn with_ring(model: &mut [u8], i: usize, x: usize) -> bool
 
 // What adding a row gives: whether that changed its cells, and whether its last byte; and the lowest name with a ring,
 // or MOST_NAMES.
-#[derive(Drop)]
+#[derive(Clone, Copy)]
 pub struct Change {
     pub cells: bool,
     pub last: bool,

@@ -1,6 +1,6 @@
 -- What `prepared` leaves of a table that is accepted: the sections of the table, as code takes them.
 use Rattle.std.proofs.Common.{sym, subst, List, ℕ, ◌+◌, ◌-◌, ◌^◌, ◌<◌, ◌≡◌, length, take, drop}
-use Rattle.table.proofs.Laws.Sections.{Holds, AcceptedAs}
+use Rattle.table.specs.Laws.Sections.{Holds, AcceptedAs}
 use Rattle.steps.specs.declared.machine.Machine.{Machine}
 use Rattle.links.specs.Holding.{Links}
 use Rattle.runner.specs.Parts.{first_machine, Prepared}

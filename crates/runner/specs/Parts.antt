@@ -2,7 +2,7 @@
 use Rattle.std.specs.Prelude.{◌≡◌, cond, List, ℕ, ◌^◌, ◌<◌, eqb, length, replicate}
 use Rattle.table.specs.Constants.{most_names}
 use Rattle.table.specs.Check.{Outcome, refused, accepted, check_table}
-use Rattle.table.proofs.Laws.Sections.{Holds}
+use Rattle.table.specs.Laws.Sections.{Holds}
 use Rattle.schedule.specs.Limits.{most_locks, most_threads}
 use Rattle.steps.specs.declared.machine.Machine.{Machine}
 use Rattle.steps.specs.Machines.{ended_mark, stuck_mark, open_mark, unstarted_mark, beyond_mark, over_as, starting_as}

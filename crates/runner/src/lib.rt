@@ -42,7 +42,7 @@ pub enum Ran {
 
 // What a run reports to a caller in C: the number of the answer, and how far the run came.
 #[repr(C)]
-#[derive(Drop)]
+#[derive(Clone, Copy)]
 pub struct Report {
     pub answer: u64,
     pub read: usize,

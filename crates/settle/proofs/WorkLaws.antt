@@ -15,7 +15,7 @@ use Rattle.rules.specs.Derived.{RecordedFrom, Closed, KeptFrom}
 use Rattle.grid.specs.Grid.{Pair, Small, AllKept, Empty, Closure}
 use Rattle.rows.specs.Bytes.{RowBits, RowsOf}
 use Rattle.rows.specs.Laws.Fixpoint.{closed_mono, recorded_calls}
-use Rattle.table.proofs.Laws.Fine.{IsBody}
+use Rattle.table.specs.Laws.Fine.{IsBody}
 use Rattle.pairs.specs.Gains.{Gains}
 use Rattle.pairs.specs.Parts.{Records}
 use Rattle.settle.specs.Bodies.{BodyReady, Works}

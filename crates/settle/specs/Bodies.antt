@@ -4,7 +4,7 @@ use Rattle.std.specs.Prelude.{◌≡◌, Bool, List, [], ◌∷◌, ℕ, zero, s
 use Rattle.table.specs.Constants.{END, row_bytes}
 use Rattle.table.specs.Program.{Program, body}
 use Rattle.table.specs.Encoding.{encode}
-use Rattle.table.proofs.Laws.Sections.{Holds}
+use Rattle.table.specs.Laws.Sections.{Holds}
 use Rattle.rules.specs.Verdict.{Calls}
 use Rattle.grid.specs.Rows.{Has}
 use Rattle.rows.specs.Model.{ShapedRow}

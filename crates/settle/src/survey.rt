@@ -1,7 +1,7 @@
 // A survey of the bodies: where each starts, and what it calls.
 ghost use Rattle.std.specs.Prelude.{◌≡◌, length};
 ghost use Rattle.table.specs.Constants.{most_routines};
-ghost use Rattle.table.proofs.Laws.Sections.{Held};
+ghost use Rattle.table.specs.Laws.Sections.{Held};
 ghost use Rattle.settle.specs.Bodies.{Surveys};
 
 use pairs::{Scanned, scan};

@@ -8,6 +8,5 @@ pub mod Complete
 pub mod Formed
 pub mod Items
 pub mod Accepts
-pub mod Fine
 pub mod Within
 pub mod Sections

@@ -18,7 +18,7 @@ pub struct Counts {
 // What stands at an offset: an item without a block, with the scope and the counts after it; an item with one block
 // (LOCK, FORK) or with two (CHOICE), with the counts before its first block; the close of the block; or a refusal. Each
 // but the refusal has the next offset.
-#[derive(Drop)]
+#[derive(Clone, Copy)]
 pub enum Opening {
     Plain(usize, u64, Counts),
     One(usize, Counts),
@@ -28,7 +28,7 @@ pub enum Opening {
 }
 
 // What reading one item gives: the next offset with the scope and the counts there, the block's close, or a refusal.
-#[derive(Drop)]
+#[derive(Clone, Copy)]
 pub enum ItemRead {
     More(usize, u64, Counts),
     Closed(usize),
@@ -36,7 +36,7 @@ pub enum ItemRead {
 }
 
 // What reading a block to its close gives: the next offset with the counts there, or a refusal.
-#[derive(Drop)]
+#[derive(Clone, Copy)]
 pub enum BlockRead {
     Read(usize, Counts),
     Bad(u64),

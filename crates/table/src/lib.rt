@@ -17,7 +17,7 @@ use reader::next_body;
 use scope::{size, wide};
 
 // What checking a table gives: how many routines and items it has, or the refusal's number.
-#[derive(Drop)]
+#[derive(Clone, Copy)]
 pub enum Checked {
     Accepted(u64, u64),
     Refused(u64),

@@ -7,7 +7,7 @@ use crate::bodies::{BlockRead, Counts, read_block};
 use crate::limits::MOST_OPEN;
 
 // A reader of bodies: the body section, and the offset at which the next body starts.
-#[derive(Drop)]
+#[derive(Clone, Copy)]
 pub struct Body<'a> {
     pub section: &'a [u8],
     pub at: usize,

@@ -8,7 +8,8 @@ use lib.ListN.{length, get_or, take, drop}
 use Rattle.table.specs.Constants.{row_bytes}
 use Rattle.table.specs.Program.{Program}
 use Rattle.table.specs.Check.{refused, accepted, check_table}
-use Rattle.table.proofs.Laws.Sections.{Holds, routines, AcceptedAs}
+use Rattle.table.specs.Laws.Sections.{Holds, AcceptedAs}
+use Rattle.table.proofs.Laws.Sections.{routines}
 use Rattle.rows.specs.Model.{Shaped}
 use Rattle.rounds.specs.OneBody.{OnlyBody}
 use Rattle.rounds.proofs.Laws.OneBody.{bytes_of_only_body}

@@ -10,8 +10,9 @@ use lib.Seq.{take_all}
 use Rattle.table.specs.Constants.{END}
 use Rattle.table.specs.Program.{Program, body}
 use Rattle.table.specs.Encoding.{encode, encode_bodies, counts}
-use Rattle.table.proofs.Laws.Fine.{IsBody}
-use Rattle.table.proofs.Laws.Sections.{Holds, routines, few}
+use Rattle.table.specs.Laws.Fine.{IsBody}
+use Rattle.table.specs.Laws.Sections.{Holds}
+use Rattle.table.proofs.Laws.Sections.{routines, few}
 use Rattle.rounds.specs.OneBody.{OnlyBody}
 use Rattle.rounds.proofs.Laws.OneBody.{SameBytes, prefix_unique, only_body_of_bytes, bytes_of_only_body}
 use Rattle.pairs.specs.Parts.{Scans}

@@ -25,7 +25,7 @@ bad_model = 19
 abbrev pub NoPair : ℕ → ℕ → ℕ → Type 0
 NoPair k a b = (a ≡ b) ⊎ (b ≡ 0) ⊎ (k < a) ⊎ (k < b)
 
--- the rows in the buffer are those of a well_formed model for P
+-- the rows in the buffer are those of a well-formed model for P
 pub record Formed (P : Program) (model : List ℕ) : Type 0 where
   pub small : (r a b : ℕ) → r < length P → a < row_names → b < row_names → cell_byte model r a b ≤ 7
   pub zero : (r a b : ℕ) → r < length P → a < row_names → b < row_names → NoPair (params P r) a b

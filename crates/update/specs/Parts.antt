@@ -5,7 +5,7 @@ use Rattle.table.specs.Constants.{row_names, row_cells, row_bytes}
 use Rattle.table.specs.Program.{Program}
 use Rattle.table.specs.Encoding.{encode_bodies}
 use Rattle.table.specs.Check.{accepted, check_table}
-use Rattle.table.proofs.Laws.Sections.{Holds}
+use Rattle.table.specs.Laws.Sections.{Holds}
 use Rattle.grid.specs.Rows.{Has, Bits}
 use Rattle.rows.specs.Model.{Shaped}
 use Rattle.rounds.specs.Reaches.{Touched}

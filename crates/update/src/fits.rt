@@ -1,4 +1,4 @@
-// Whether the rows in a buffer are of a well_formed model.
+// Whether the rows in a buffer are of a well-formed model.
 ghost use Rattle.std.specs.Prelude.{◌≡◌, ℕ, ◌+◌, ◌*◌, ◌≤◌, ◌<◌, length, get_or};
 ghost use Rattle.table.specs.Constants.{most_params, row_names, row_bytes};
 ghost use Rattle.update.specs.Parts.{Answers, needed_for, Needed, outside_of, RowFits, RowsFit};

@@ -1,7 +1,7 @@
 // One routine replaced: a model brought up to date from the old table, the new one, the routine and the old model.
 #![tactic(auto)]
 
-ghost use Rattle.table.proofs.Laws.Sections.{AcceptedAs};
+ghost use Rattle.table.specs.Laws.Sections.{AcceptedAs};
 ghost use Rattle.update.specs.Answer.{Replaced, ReplacedAs, Fits};
 ghost use Rattle.update.specs.Parts.{CanBringKnown, BringsKnown, CanBring, Brings, BringsAccepted};
 
@@ -25,7 +25,7 @@ pub const OTHER_TABLE: u64 = 18;
 pub const BAD_MODEL: u64 = 19;
 
 // What bringing a model up to date answers: done, or the number of a refusal.
-#[derive(Drop)]
+#[derive(Clone, Copy)]
 pub enum Updated {
     Done,
     Refused(u64),

@@ -5,7 +5,7 @@ use Prim.Native.Nat.{ℕ}
 use native.Mathlib.Omega.{arith}
 use Rattle.table.specs.Program.{Program}
 use Rattle.table.specs.Check.{refused, accepted, check_table}
-use Rattle.table.proofs.Laws.Sections.{Holds, AcceptedAs}
+use Rattle.table.specs.Laws.Sections.{Holds, AcceptedAs}
 use Rattle.settle.specs.Bodies.{Surveyed}
 use Rattle.order.specs.Standing.{HoldsAt}
 use Rattle.writer.specs.Answer.{Writes}

@@ -4,7 +4,7 @@ use Rattle.table.specs.Constants.{most_routines, END}
 use Rattle.table.specs.Program.{Program, params, body}
 use Rattle.table.specs.Check.{accepted, check_table}
 use Rattle.table.specs.WellFormed.{In}
-use Rattle.table.proofs.Laws.Sections.{Holds}
+use Rattle.table.specs.Laws.Sections.{Holds}
 use Rattle.append.specs.Appends.{Appends}
 use Rattle.canon.specs.Canonical.{order, position, canonical_table}
 use Rattle.order.specs.Items.{items_of}

@@ -1,7 +1,7 @@
 // The writer of canonical tables: one way to write a table.
 #![tactic(auto)]
 
-ghost use Rattle.table.proofs.Laws.Sections.{Held, AcceptedAs};
+ghost use Rattle.table.specs.Laws.Sections.{Held, AcceptedAs};
 ghost use Rattle.append.specs.Appends.{Appends};
 ghost use Rattle.order.specs.Standing.{HeldAt};
 ghost use Rattle.writer.specs.Answer.{Writes, WritesAs, Fits};
@@ -23,7 +23,7 @@ pub const SHORT_OUTPUT: u64 = 20;
 pub const LENGTH_BASE: u32 = 65536;
 
 // What the writer answers: the length of the canonical table, or the number of a refusal.
-#[derive(Drop)]
+#[derive(Clone, Copy)]
 pub enum Written {
     Length(usize),
     Refused(u64),

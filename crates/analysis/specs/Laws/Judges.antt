@@ -2,7 +2,7 @@
 use Rattle.std.specs.Prelude.{ℕ, ◌*◌, ◌≤◌, List, length}
 use Rattle.table.specs.Constants.{row_bytes}
 use Rattle.table.specs.Program.{Program}
-use Rattle.table.proofs.Laws.Sections.{Holds}
+use Rattle.table.specs.Laws.Sections.{Holds}
 use Rattle.settle.specs.Settle.{AllFresh}
 use Rattle.settle.specs.Bodies.{Known}
 use Rattle.analysis.specs.Answer.{most_rounds, Says, Shares, Short, JudgedAs}

@@ -7,7 +7,8 @@ use Rattle.table.specs.Program.{Program, body, params}
 use Rattle.table.specs.Encoding.{encode_bodies, counts}
 use Rattle.table.proofs.Laws.Sound.{counts_params}
 use Rattle.table.proofs.Laws.Within.{fine, bodies_from}
-use Rattle.table.proofs.Laws.Sections.{Holds, routines, Held, few}
+use Rattle.table.specs.Laws.Sections.{Holds, Held}
+use Rattle.table.proofs.Laws.Sections.{routines, few}
 use Rattle.links.specs.Laws.Named.{named}
 use Rattle.links.specs.Lies.{section, Lies}
 use Rattle.links.specs.Walks.{going_by, begun, Ends, Walks, Linked}

@@ -6,7 +6,7 @@ use Rattle.table.specs.Program.{Code, end, new, lock, fork, choice, call, mirror
 use Rattle.table.specs.WellFormed.{In}
 use Rattle.table.specs.Encoding.{Numbered}
 use Rattle.table.proofs.Laws.Lists.{names_low}
-use Rattle.table.proofs.Laws.Fine.{Calling, Uses, Fine}
+use Rattle.table.specs.Laws.Fine.{Calling, Uses, Fine}
 
 -- every name that an item has is below 16, and each call is of a routine of ks, with a name for each parameter
 abbrev pub Named : List ℕ → Code → Type 0

@@ -12,7 +12,8 @@ use Rattle.rules.proofs.Laws.Lists.{up_to, in_up_to, up_to_long}
 use Rattle.rows.specs.Laws.Fixpoint.{calls_only}
 use Rattle.rounds.specs.Reaches.{ReachesBy, calls, passes}
 use Rattle.rounds.specs.Rounds.{RowsAfter, Changeless, Rounds, Acyclic}
-use Rattle.rounds.proofs.Laws.Steps.{Steady, changeless, none_beyond}
+use Rattle.rounds.specs.Laws.Steps.{Steady}
+use Rattle.rounds.proofs.Laws.Steps.{changeless, none_beyond}
 
 module _ (P : Program) (acyclic : Acyclic P) where
   -- a routine that reaches at most k routines, itself among them, is steady after k rounds

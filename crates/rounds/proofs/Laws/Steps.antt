@@ -1,5 +1,6 @@
 -- Rounds one after the other: they only add, they add nothing that the model lacks, and after the last one the rows are
 -- the model's.
+use Rattle.rounds.specs.Laws.Steps.{Steady, SameRow}
 use Rattle.std.specs.Prelude.{◌≡◌, refl, ◌↔◌, ℕ, zero, suc, ◌+◌, ◌-◌, ◌≤◌, ◌<◌, length}
 use Rattle.std.proofs.Math.Decide.{dec_lt}
 use Rattle.std.proofs.Common.{arith}
@@ -43,21 +44,12 @@ rounds_unique P m n p q =
     let f = q.number in
     omega arith
 
--- the next round works out nothing more for routine r than round i
-abbrev pub Steady : Program → ℕ → ℕ → Type 0
-Steady P i r = (a b : ℕ) (l : Label) → PairsIn P (suc i) r a b l → PairsIn P i r a b l
-
 -- a round only adds to rows and last bytes, too
 pub rows_add : (P : Program) (i : ℕ) → Within (RowsAfter P i) (RowsAfter P (suc i))
 rows_add P i = row_mono P (PairsIn P i) (PairsIn P (suc i)) (adds P i)
 
 pub rings_add : (P : Program) (i r : ℕ) → RingAfter P i r → RingAfter P (suc i) r
 rings_add P i r w = (w.0, adds P i r w.0 w.0 several w.1)
-
--- the next round leaves the cells and the last byte of routine r as they were
-pub record SameRow (P : Program) (i r : ℕ) : Type 0 where
-  pub cells : (a b : ℕ) (l : Label) → RowsAfter P (suc i) r a b l → RowsAfter P i r a b l
-  pub ring : RingAfter P (suc i) r → RingAfter P i r
 
 pub steady_same : (P : Program) (i r : ℕ) → Steady P i r → SameRow P i r
 steady_same P i r s = record {

@@ -7,7 +7,8 @@ use Rattle.table.specs.Program.{Program, body}
 use Rattle.table.specs.Check.{Outcome, refused, accepted, check_table}
 use Rattle.table.proofs.Laws.Formed.{well_formed}
 use Rattle.table.proofs.Laws.Refusals.{refusals}
-use Rattle.table.proofs.Laws.Sections.{Holds, routines}
+use Rattle.table.specs.Laws.Sections.{Holds}
+use Rattle.table.proofs.Laws.Sections.{routines}
 use Rattle.run.specs.Run.{ended, thread, start}
 use Rattle.schedule.specs.Limits.{most_locks}
 use Rattle.schedule.specs.Schedule.{End, all_ended, stuck, at_end, unstarted, beyond, Result, stop, runs}

@@ -1,6 +1,7 @@
 -- `prepared` meets its contract, by the cases of the check.
 use Rattle.std.proofs.Common.{◌<◌, ◌^◌, length, arith, rules}
-use Rattle.table.proofs.Laws.Sections.{AcceptedAs, accepted_as}
+use Rattle.table.specs.Laws.Sections.{AcceptedAs}
+use Rattle.table.proofs.Laws.Sections.{accepted_as}
 use Rattle.runner.proofs.SectionLaws.{prepared_accepted}
 use Rattle.runner.proofs.prepared.Goals as goal
 

@@ -9,12 +9,13 @@ use Rattle.table.specs.Encoding.{encode, encode_bodies}
 use Rattle.table.proofs.Laws.Sound.{counts_params}
 use Rattle.rules.specs.Verdict.{Calls}
 use Rattle.grid.specs.Rows.{Has}
-use Rattle.table.proofs.Laws.Fine.{Fine, IsBody}
+use Rattle.table.specs.Laws.Fine.{Fine, IsBody}
 use Rattle.pairs.specs.Parts.{Scans}
 use Rattle.table.proofs.Laws.Within.{fine}
 use Rattle.settle.specs.Bodies.{start_of, Surveyed, Surveys}
 use Rattle.settle.specs.Laws.Starts.{body_at, start_next}
-use Rattle.table.proofs.Laws.Sections.{Holds, routines, Held, few}
+use Rattle.table.specs.Laws.Sections.{Holds, Held}
+use Rattle.table.proofs.Laws.Sections.{routines, few}
 
 module _ (P : Program) (ks s : List ℕ) (h : Holds P ks s) (r : ℕ) (l : r < length P) where
   -- what follows the body of routine r

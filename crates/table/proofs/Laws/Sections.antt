@@ -1,4 +1,5 @@
 -- The sections of a table that hold a program; those of an accepted table do, as code takes them.
+use Rattle.table.specs.Laws.Sections.{Holds, Held, AcceptedAs}
 use Rattle.std.specs.Prelude.{◌≡◌, List, ◌++◌, ℕ, suc, ◌+◌, ◌-◌, ◌≤◌, ◌<◌, length, get_or, take, drop}
 use Rattle.std.proofs.Common.{sym, ap, ◌∙◌, arith, length-append, take_at, take_all}
 use Rattle.std.proofs.Math.Decide.{dec_lt}
@@ -6,18 +7,12 @@ use Rattle.std.proofs.Math.ListN.{get_or-eq_default}
 use Rattle.std.proofs.Math.Seq.{drop-append-add}
 use Rattle.table.specs.Constants.{most_routines, most_params}
 use Rattle.table.specs.Program.{Program, params}
-use Rattle.table.specs.Encoding.{encode_table, encode_bodies, counts, two_bytes, WithinLimits}
+use Rattle.table.specs.Encoding.{encode_table, encode_bodies, counts, two_bytes}
 use Rattle.table.specs.Check.{accepted, check_table}
 use Rattle.table.proofs.Laws.Sound.{sound, counts_length, counts_params}
 use Rattle.table.specs.Answer.{checked_of}
 use Rattle.table.specs.declared.Checked.TheVariants.{Accepted}
 use Rattle.table.proofs.Laws.Accepts.{Bytes, accepted_few, accepted_of}
-
--- the parameter counts and the section of a table that holds P
-pub record Holds (P : Program) (ks s : List ℕ) : Type 0 where
-  pub params_are : ks ≡ counts P
-  pub bytes_are : s ≡ encode_bodies P
-  pub limits : WithinLimits P
 
 module _ (P : Program) (ks s : List ℕ) (h : Holds P ks s) where
   pub routines : length ks ≡ length P
@@ -36,10 +31,6 @@ module _ (P : Program) (ks s : List ℕ) (h : Holds P ks s) where
           let e = routines in
           let z : get_or ks r 0 ≡ 0 = get_or-eq_default ks 0 {n = r} (omega (arith, e, n)) in
           omega (arith, z)
-
--- some program is held
-abbrev pub Held : List ℕ → List ℕ → Type 0
-Held ks s = (P : Program) × Holds P ks s
 
 pub few : (ks s : List ℕ) → Held ks s → length ks ≤ most_routines
 few ks s p = let e = routines p.0 ks s p.1 in let l = p.1.limits.few_routines in omega (arith, e, l)
@@ -91,16 +82,6 @@ module _ (table : List ℕ) (bytes : Bytes table) (n : ℕ) (P : Program) (e : c
     bytes_are = rw (is_table, en) (second_part P);
     limits = (sound table P bytes e).1;
   }
-
--- what is known of a table that the check accepts with n routines
-pub record AcceptedAs (table : List ℕ) (n : ℕ) : Type 0 where
-  pub program : Program
-  pub accepts : check_table table ≡ accepted program
-  pub size : n ≡ length program
-  pub few : n ≤ 64
-  pub there : n + 3 ≤ length table
-  pub first : get_or table 0 0 ≡ n
-  pub holds : Holds program (take (n + 1 - 1) (drop 1 table)) (take (length table - (n + 3)) (drop (n + 3) table))
 
 pub accepted_as : (table : List ℕ) (n items : ℕ) → Bytes table → Accepted n items ≡ checked_of (check_table table)
     → AcceptedAs table n

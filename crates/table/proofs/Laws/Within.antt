@@ -7,7 +7,7 @@ use Rattle.table.specs.Program.{names}
 use Rattle.table.specs.WellFormed.{Scoped}
 use Rattle.table.specs.Encoding.{encode, encode_bodies, counts, WithinLimits}
 use Rattle.table.proofs.Laws.Sound.{counts_length, counts_params}
-use Rattle.table.proofs.Laws.Fine.{Calling, Uses, Fine, IsBody}
+use Rattle.table.specs.Laws.Fine.{Calling, Uses, Fine, IsBody}
 
 -- its calls are of routines of the program, with a name for each parameter
 module _ (P : Program) (h : WithinLimits P) (k : ℕ) where

@@ -2,7 +2,8 @@
 use Rattle.std.specs.Prelude.{◌≡◌, List, ℕ, ◌+◌, ◌*◌, ◌/◌, ◌%◌, ◌<◌, length, get_or}
 use Rattle.std.proofs.Common.{div-add-mod', mod-lt, arith}
 use Rattle.table.specs.Program.{Program, params}
-use Rattle.table.proofs.Laws.Sections.{Holds, routines, params_at}
+use Rattle.table.specs.Laws.Sections.{Holds}
+use Rattle.table.proofs.Laws.Sections.{routines, params_at}
 use Rattle.rows.specs.Model.{Shaped}
 use Rattle.update.specs.Answer.{Formed}
 use Rattle.update.specs.Parts.{CellFits, RowFits, RowsFit}
@@ -43,7 +44,7 @@ module _ (P : Program) (ks s : List ℕ) (h : Holds P ks s) (model : List ℕ) w
             zero = λ o. rw e at (f.zero r a b here la m o);
           }
 
-  -- the cells of a well_formed model have labels alone, and its last bytes are 0 or 1
+  -- the cells of a well-formed model have labels alone, and its last bytes are 0 or 1
   pub shaped_of_formed : Formed P model → Shaped (length P) model
   shaped_of_formed f r l =
       let w = fits_of_formed f r (let e = routines P ks s h in omega arith) in

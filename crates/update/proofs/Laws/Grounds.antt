@@ -1,4 +1,4 @@
--- The grounds of refusal 19, with the numbers of docs/FORMAT.md: what each says of every well_formed model, and computed
+-- The grounds of refusal 19, with the numbers of docs/FORMAT.md: what each says of every well-formed model, and computed
 -- models that have one each.
 use Rattle.std.specs.Prelude.{◌≡◌, refl, Bool, true, false, List, [], ◌∷◌, map, ℕ, zero, suc, ◌+◌, ◌*◌, ◌≤◌, ◌<◌, length}
 use Rattle.std.specs.Prelude.{get_or, set, replicate}
@@ -78,7 +78,7 @@ cell? v a b k = go (dec_le v 7) (no_pair? k a b) (ℕ_discrete v 0)
     go (yes l) (no m) (no n) = yes (record { small = l; zero = λ q. absurd (m q) })
 
 module _ (P : Program) (model : List ℕ) where
-  -- the cells of row r are those of a well_formed model
+  -- the cells of row r are those of a well-formed model
   abbrev Cells : ℕ → Type 0
   Cells r = (a : ℕ) → a < row_names → (b : ℕ) → b < row_names → CellFits (cell_byte model r a b) a b (params P r)
 

@@ -3,7 +3,8 @@ use mathlib.Core.Path.{subst}
 use mathlib.Core.List.{List}
 use Prim.Native.Nat.{ℕ}
 use native.Mathlib.Omega.{arith}
-use Rattle.table.proofs.Laws.Sections.{Holds, few}
+use Rattle.table.specs.Laws.Sections.{Holds}
+use Rattle.table.proofs.Laws.Sections.{few}
 use Rattle.settle.specs.Laws.Surveys.{cut_surveyed}
 use Rattle.update.proofs.FitLaws.{told_true}
 use Rattle.update.proofs.BringLaws.{brings_differ}
