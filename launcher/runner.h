@@ -2,7 +2,7 @@
  * C11, usable from C++, also beside vangpear.h. docs/FORMAT.md has the format of a table, the run, the bytes of a
  * schedule (Running a schedule), and all the numbers below.
  *
- * Link with the archive that `rt staticlib runner` writes, target/staticlib/librunner.a; libanalysis.a, libupdate.a
+ * Link with the archive that `tools/archive runner` writes, target/staticlib/librunner.a; libanalysis.a, libupdate.a
  * and libwriter.a may be in the same program. All are for x86-64 Linux, and so is the layout of the structs. The call
  * keeps no state, takes no heap, writes nothing but what is said here, and is proved to end for every input. It uses
  * less than 56 KiB of stack (53,908 bytes measured), and 4 KiB more where the dynamic linker binds memcpy or memset

@@ -2,7 +2,7 @@
  * C11, usable from C++, also beside vangpear.h, runner.h and writer.h. docs/FORMAT.md has the format of a table, the
  * rules, what the call does (One routine replaced), and all the numbers below.
  *
- * Link with the archive that `rt staticlib update` writes, target/staticlib/libupdate.a; libanalysis.a, whose header
+ * Link with the archive that `tools/archive update` writes, target/staticlib/libupdate.a; libanalysis.a, whose header
  * vangpear.h has the layout of a model, librunner.a and libwriter.a may be in the same program. The call keeps no
  * state, takes no heap, writes nothing but the model, and is proved to end for every input. It uses less than 10 KiB of
  * stack (9,556 bytes measured): have 16 KiB free. Two calls may run at the same time on different model buffers. What

@@ -2,7 +2,7 @@
  * C11, usable from C++, also beside vangpear.h, update.h and runner.h. docs/FORMAT.md has the format of a table, what
  * its canonical table is (One way to write a table), and all the numbers below.
  *
- * Link with the archive that `rt staticlib writer` writes, target/staticlib/libwriter.a; libanalysis.a, libupdate.a
+ * Link with the archive that `tools/archive writer` writes, target/staticlib/libwriter.a; libanalysis.a, libupdate.a
  * and librunner.a may be in the same program. The call keeps no state, takes no heap, writes nothing but the canonical
  * table, and is proved to end for every input. It uses less than 8 KiB of stack (7,124 bytes measured): have 12 KiB
  * free. Two calls may run at the same time on different output buffers. What each refusal's number means is in

@@ -3,8 +3,8 @@
 //! tables against its check and the fast Rust writer of `reference::fast_canonical`.
 //!
 //! `reference/bench` builds what is needed and runs this; `reference/bench --write` also writes
-//! docs/BENCHMARK.md. By hand, in the folder `reference` and after `rt staticlib` of `analysis`,
-//! `update` and `writer`:
+//! docs/BENCHMARK.md. By hand, in the folder `reference` and after `../tools/archive analysis update
+//! writer`:
 //!
 //!     VANGPEAR_ARCHIVE_DIR=../target/staticlib VANGPEAR_ARCHIVE="analysis update writer" \
 //!       cargo run --release --offline --features archive --bin bench -- [--write]
