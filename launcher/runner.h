@@ -5,7 +5,7 @@
  * Link with the archive that `tools/archive runner` writes, target/staticlib/librunner.a; libanalysis.a, libupdate.a
  * and libwriter.a may be in the same program. All are for x86-64 Linux, and so is the layout of the structs. The call
  * keeps no state, takes no heap, writes nothing but what is said here, and is proved to end for every input. It uses
- * less than 68 KiB of stack (67,936 bytes measured), and 4 KiB more where the dynamic linker binds memcpy or memset
+ * less than 68 KiB of stack (42,500 bytes measured), and 4 KiB more where the dynamic linker binds memcpy or memset
  * in it: have 80 KiB free. Two calls may run at the same time on different records. */
 #ifndef VANGPEAR_RUNNER_H
 #define VANGPEAR_RUNNER_H

@@ -5,7 +5,7 @@
  * Link with the archive that `tools/archive update` writes, target/staticlib/libupdate.a; libanalysis.a, whose header
  * vangpear.h has the layout of a model, librunner.a and libwriter.a may be in the same program. The call keeps no
  * state, takes no heap, writes nothing but the model, and is proved to end for every input. It uses less than 11 KiB of
- * stack (11,072 bytes measured): have 16 KiB free. Two calls may run at the same time on different model buffers. What
+ * stack (5,860 bytes measured): have 16 KiB free. Two calls may run at the same time on different model buffers. What
  * each refusal's number means is in refusals.h. */
 #ifndef VANGPEAR_UPDATE_H
 #define VANGPEAR_UPDATE_H

@@ -4,7 +4,7 @@
  *
  * Link with the archive that `tools/archive analysis` writes, target/staticlib/libanalysis.a. The calls keep no state,
  * take no memory of their own, write nothing but what is said here, and are proved to end for every input. They use
- * less than 13 KiB of stack (12,320 bytes measured): have 20 KiB free. Two calls may run at the same time on different
+ * less than 13 KiB of stack (11,748 bytes measured): have 20 KiB free. Two calls may run at the same time on different
  * model buffers. What each refusal's number means is in refusals.h. */
 #ifndef VANGPEAR_H
 #define VANGPEAR_H

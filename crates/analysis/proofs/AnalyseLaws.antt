@@ -7,18 +7,21 @@ use lib.ListN.{length}
 use Rattle.table.specs.Program.{Program}
 use Rattle.table.specs.Check.{refused, accepted, check_table}
 use Rattle.table.specs.Constants.{row_bytes}
-use Rattle.analysis.specs.Answer.{short_buffer, JudgedAs, Analysed, Short, Fits}
-use Rattle.analysis.specs.declared.RingPlace.{RingPlace}
-use Rattle.analysis.specs.declared.Share.{Share}
-use Rattle.analysis.specs.declared.Verdict.{Verdict}
-use Rattle.analysis.specs.declared.Verdict.TheVariants.{Ring}
-use Rattle.analysis.specs.declared.Answer.{Answer}
-use Rattle.analysis.specs.declared.Answer.TheVariants.{Judged, Refused}
+use Rattle.std.specs.Prelude.{Ok, Err}
+use Rattle.table.specs.Refusal.{refusal_number, refusal_of}
+use Rattle.table.specs.declared.refusal.Refusal.{Refusal}
+use Rattle.table.proofs.Laws.Refusals.{refusals}
+use Rattle.analysis.specs.Answer.{short_buffer, JudgedAs, Analysed, Fits}
+use Rattle.analysis.specs.declared.Judgement.{Judgement}
+use Rattle.analysis.proofs.Laws.Refusals.{number_refused}
 
 module _ (table before : List ℕ) where
-  pub refused_by_check : (e : ℕ) → check_table table ≡ refused e → Analysed table before before (Refused e)
+  pub refused_by_check : (e : ℕ) → check_table table ≡ refused e → Analysed table before before (Err (refusal_of e))
   refused_by_check e h = record {
-    refused_table = λ y g. let o : refused e ≡ refused y = sym h ∙ g in (cc, refl);
+    refused_table = λ y g.
+        let o : refused e ≡ refused y = sym h ∙ g in
+        let z : e ≡ y = cc in
+        (cc, number_refused table e h ∙ z, refl);
     refused_buffer = λ P g l. absurd (let z : ◌≡◌ {A = ℕ} 0 1 = cc in omega arith);
     judged = λ P g l. absurd (let z : ◌≡◌ {A = ℕ} 0 1 = cc in omega arith);
   }
@@ -27,29 +30,25 @@ module _ (table before : List ℕ) where
     same : (Q : Program) → check_table table ≡ accepted Q → P ≡ Q
     same Q g = let o : accepted P ≡ accepted Q = sym h ∙ g in cc
 
-    pub refused_for_buffer : length before < row_bytes * length P → Analysed table before before (Refused short_buffer)
+    pub refused_for_buffer : length before < row_bytes * length P → Analysed table before before (Err (refusal_of short_buffer))
     refused_for_buffer s = record {
       refused_table = λ y g. absurd (let z : ◌≡◌ {A = ℕ} 0 1 = cc in omega arith);
-      refused_buffer = λ Q g l. (refl, refl);
+      refused_buffer = λ Q g l. (refl, refl, refl);
       judged = λ Q g l. absurd (let e : length P ≡ length Q = ap length (same Q g) in omega arith);
     }
 
-    pub judged_as : row_bytes * length P ≤ length before → (after : List ℕ) (verdict : Verdict)
-        (share : Share) (m : ℕ) → JudgedAs P before after verdict share m
-        → Analysed table before after (Judged verdict share m)
-    judged_as s after verdict share m j = record {
+    pub judged_as : row_bytes * length P ≤ length before → (after : List ℕ) (j : Judgement) → JudgedAs P before after j
+        → Analysed table before after (Ok j)
+    judged_as s after j w = record {
       refused_table = λ y g. absurd (let z : ◌≡◌ {A = ℕ} 0 1 = cc in omega arith);
       refused_buffer = λ Q g l. absurd (let e : length P ≡ length Q = ap length (same Q g) in omega arith);
-      judged = λ Q g l. (verdict, share, m, refl, rw (same Q g) at j);
+      judged = λ Q g l. (j, refl, rw (same Q g) at w);
     }
 
--- the numbers of a ring, where the verdict is known
-pub short_ring : (v : Verdict) (ring : RingPlace) → Short v → v ≡ Ring ring → (ring.routine < 64) × (ring.name < 16)
-short_ring v ring s e = rw e at s
-
--- the verdict and the rounds of an answer, where they are known
-pub short_judged : (a : Answer) (v : Verdict) (s : Share) (m : ℕ) → Fits a → a ≡ Judged v s m → Short v × (m ≤ 9473)
-short_judged a v s m f e = rw e at f
-
-pub small_refusal : (a : Answer) (y : ℕ) → Fits a → a ≡ Refused y → y ≤ 15
-small_refusal a y f e = let g : Fits (Refused y) = rw e at f in g.1
+-- a refusal of the check is one of those that an answer may have
+pub refusal_fits : (table : List ℕ) (r : Refusal) → (e : ℕ) × (check_table table ≡ refused e) × (r ≡ refusal_of e)
+    → Fits (Err r)
+refusal_fits table r (e, h, q) =
+    let l = refusals table e h in
+    let n : refusal_number r ≡ e = ap refusal_number q ∙ number_refused table e h in
+    (omega arith, omega arith)

@@ -3,3 +3,4 @@ pub mod Unique
 pub mod Counted
 pub mod LastBytes
 pub mod Judged
+pub mod Refusals

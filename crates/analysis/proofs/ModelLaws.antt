@@ -1,9 +1,11 @@
 -- Rows that are all fresh are the least model, byte for byte, and the verdict is read off them.
+use mathlib.Core.Path.{◌≡◌, refl, subst}
 use mathlib.Core.List.{List}
 use Prim.Native.Nat.{ℕ, ◌+◌, ◌*◌, ◌≤◌, ◌<◌}
 use native.Mathlib.Omega.{arith}
 use native.Mathlib.Decide.{dec_lt}
 use lib.ListN.{length, get_or}
+use Rattle.std.specs.Prelude.{Option, Some, None, IsSome}
 use Rattle.table.specs.Program.{Program}
 use Rattle.rules.specs.Model.{Row, Ring}
 use Rattle.rules.specs.Verdict.{Reached, Clear, RingAt}
@@ -14,7 +16,7 @@ use Rattle.analysis.specs.Answer.{Flag, Cell, Models}
 use Rattle.analysis.proofs.Laws.Bytes.{bit_flag, cell_at}
 use Rattle.settle.specs.Settle.{Named, Fresh, AllFresh}
 
-module _ (P : Program) (before model names : List ℕ) (part : AllFresh P before model names) where
+module _ (P : Program) (before model : List ℕ) (names : List (Option ℕ)) (part : AllFresh P before model names) where
   fresh : (r : ℕ) → r < length P → Fresh P model names r
   fresh r l = part.fresh r l
 
@@ -24,6 +26,14 @@ module _ (P : Program) (before model names : List ℕ) (part : AllFresh P before
   -- the last byte of a row tells whether there is a ring
   pub ring_told : (r x : ℕ) → r < length P → Ring P r x → RingByte model r
   ring_told r x l h = (fresh r l).ring x (all_settled.ring_from r x h)
+
+  -- and then the routine has a ring name
+  pub ring_named : (r : ℕ) → r < length P → RingByte model r → IsSome (get_or names r None)
+  ring_named r l told = by (get_or names r None) (fresh r l).name
+    where
+      by : (name : Option ℕ) → Named P model r name → IsSome name
+      by None none = let some = part.ring_sound r l told in absurd (none some.0 (all_settled.ring_from r some.0 some.1))
+      by (Some x) name = refl
 
   is_cell : (r a b : ℕ) → r < length P → a < row_names → b < row_names
       → Cell P r a b (get_or model (row_bytes * r + (row_names * a + b)) 0)
@@ -48,27 +58,20 @@ module _ (P : Program) (before model names : List ℕ) (part : AllFresh P before
   -- a ring, in the lowest of the routines that calls reach whose row tells of one
   module _ (within : (q : ℕ) → Reached P q → q < length P) (r : ℕ) (reached : Reached P r) (told : RingByte model r)
       (lowest : (q : ℕ) → q < r → Reached P q → RingByte model q → ⊥) where
-    name : Named P model r (get_or names r 0)
-    name = (fresh r (within r reached)).name
-
-    few : get_or names r 0 < 16
-    few =
-        let some = part.ring_sound r (within r reached) told in
-        (name.lowest some.0 (all_settled.ring_from r some.0 some.1)).1
-
     lower : (q y : ℕ) → Reached P q → Ring P q y → r ≤ q
     lower q y h z = elim (dec_lt q r) [
       | yes p ↦ absurd (lowest q p h (ring_told q y (within q h) z))
       | no p ↦ omega arith
     ]
 
-    pub ring_at : RingAt P r (get_or names r 0) × (get_or names r 0 < 16)
-    ring_at = (
-      record {
-        reached = reached;
-        ring = all_settled.ring_to r (get_or names r 0) (name.ring few);
-        lowest_routine = lower;
-        lowest_name = λ y h. (name.lowest y (all_settled.ring_from r y h)).0;
-      },
-      few,
-    )
+    pub ring_at : (x : ℕ) → get_or names r None ≡ Some x → RingAt P r x × (x < 16)
+    ring_at x e =
+        let name : Named P model r (Some x) = subst (Named P model r) e (fresh r (within r reached)).name in (
+          record {
+            reached = reached;
+            ring = all_settled.ring_to r x name.1;
+            lowest_routine = lower;
+            lowest_name = λ y h. name.2 y (all_settled.ring_from r y h);
+          },
+          name.0,
+        )

@@ -7,7 +7,8 @@ use native.Mathlib.Nat.{div-add-mod', mod-lt}
 use native.Mathlib.Omega.{arith}
 use lib.ListN.{length, replicate, get_or-replicate}
 use lib.Bits.{bit_or, bit_xor, or_lt, xor_lt}
-use lib.Count.{ones}
+use lib.Count.{ones, ones-le}
+use Rattle.std.specs.Prelude.{Option, None}
 use Rattle.table.specs.Program.{Program}
 use Rattle.table.specs.WellFormed.{WellFormed}
 use Rattle.table.proofs.Laws.Formed.{well_formed}
@@ -20,12 +21,13 @@ use Rattle.grid.specs.Rows.{Has, Bits}
 use Rattle.grid.proofs.Laws.Masks.{has_zero, bits_map, bits_beyond}
 use Rattle.rows.specs.Bytes.{RingByte}
 use Rattle.analysis.specs.Answer.{Says, Shares, Short}
+use Rattle.analysis.specs.declared.Judgement.{Judgement}
 use Rattle.analysis.specs.declared.Share.{Share}
 use Rattle.analysis.specs.declared.Verdict.{Verdict}
 use Rattle.analysis.specs.declared.Verdict.TheVariants.{Clear, Ring}
 use Rattle.settle.specs.Reach.{Reachable, CanReach}
 use Rattle.settle.specs.Due.{Callers}
-use Rattle.analysis.specs.Laws.Judging.{RingRows, Tells, Divided}
+use Rattle.analysis.specs.Laws.Judging.{RingRows, AllNamed, Tells, Divided}
 use Rattle.settle.specs.Settle.{AllFresh}
 use Rattle.settle.specs.Bodies.{Known}
 use Rattle.byrounds.specs.Round.{CanBegin, RoundsDone}
@@ -33,12 +35,12 @@ use Rattle.rounds.specs.Rounds.{Rounds}
 use Rattle.rounds.proofs.Laws.Bound.{rounds_le}
 use Rattle.analysis.specs.Laws.Judges.{Finished, Pronounces}
 use Rattle.analysis.specs.Laws.Judges.{CanJudgeKnown, JudgesKnown}
-use Rattle.analysis.proofs.ModelLaws.{are_models, ring_told, no_ring, ring_at}
+use Rattle.analysis.proofs.ModelLaws.{are_models, ring_told, ring_named, no_ring, ring_at}
 use Rattle.settle.specs.Laws.Starts.{reached_bits}
 use Rattle.settle.specs.Laws.Links.{linked}
 use Rattle.analysis.proofs.JudgingLaws.{count_bits}
 
-module _ (calls model names : List ℕ) where
+module _ (calls model : List ℕ) (names : List (Option ℕ)) where
   pub rows_there : Finished calls model names → (length calls ≤ 64) × (65 * length calls ≤ length model)
   rows_there fin =
       let e = fin.known.surveyed.calls_long in
@@ -87,8 +89,8 @@ module _ (calls model names : List ℕ) where
           let w = found.to ring.routine low.bit in
           let h = ring_at P before model names part (reached_within P formed) ring.routine
           (is_reached.to ring.routine w.1.0) w.1.1
-          (λ q k g b. low.lowest q k (ring_row q g b)) in
-          (rw e h.0, (l, rw e h.1))
+          (λ q k g b. low.lowest q k (ring_row q g b)) ring.name e in
+          (h.0, (l, h.1))
 
       abbrev ringless : ℕ
       ringless = bit_xor (bit_or reached rings) rings
@@ -130,6 +132,13 @@ module _ (calls model names : List ℕ) where
           below = mod-lt (100 * ones ringless) some_reached;
         })
 
+    -- the routines with a ring have ring names
+    pub all_named : Finished calls model names → AllNamed rings names
+    all_named fin r h =
+        let e = fin.known.surveyed.calls_long in
+        let w = found.to r h in
+        ring_named fin.program fin.before model names fin.fresh r (omega (arith, w.0)) w.1.1
+
     module _ (low : reached < 2 ^ 64) (lows : rings < 2 ^ 64) where
       -- there is a reached routine to divide by
       pub some_counted : Finished calls model names → 0 < ones reached
@@ -137,12 +146,19 @@ module _ (calls model names : List ℕ) where
           some_reached fin.program fin.ks fin.s fin.starts fin.before fin.known fin.fresh low lows
 
       -- the verdict and the share are those of the program
-      pub pronounced : (c m : ℕ) (verdict : Verdict) (share : Share)
+      pub pronounced : (c m : ℕ) (j : Judgement)
           → c ≡ ones (bit_xor (bit_or reached rings) rings) → m ≡ ones reached
-          → Tells rings names verdict → Divided c m share → Pronounces calls model names verdict share
-      pronounced c m verdict share ec em tells d P ks s starts before known part =
-          let v = says P ks s starts before known part verdict tells in
-          (v.0, shares P ks s starts before known part low lows share (rw (ec, em) at d), v.1)
+          → Tells rings names j.verdict → Divided c m j.share → Pronounces calls model names j
+      pronounced c m j ec em tells d P ks s starts before known part =
+          let v = says P ks s starts before known part j.verdict tells in
+          (v.0, shares P ks s starts before known part low lows j.share (rw (ec, em) at d), v.1)
+
+-- the bits that are left of a mask are at most 64
+pub few_counted : (reached rings : ℕ) → reached < 2 ^ 64 → rings < 2 ^ 64
+    → ones (bit_xor (bit_or reached rings) rings) ≤ 64
+few_counted reached rings low lows =
+    ones-le 64 (bit_xor (bit_or reached rings) rings)
+    (xor_lt 64 (bit_or reached rings) rings (or_lt 64 reached rings low lows) lows)
 
 pub few_calls : (ks s starts calls model : List ℕ) → CanJudgeKnown ks s starts calls model → length calls ≤ 64
 few_calls ks s starts calls model p =
@@ -152,27 +168,27 @@ few_calls ks s starts calls model p =
 
 module _ (ks s starts calls callers : List ℕ) (turned : Callers calls callers) where
   pub can_begin : (model : List ℕ) → CanJudgeKnown ks s starts calls model
-      → CanBegin ks s starts callers model (replicate 64 16)
+      → CanBegin ks s starts callers model (replicate 64 None)
   can_begin model p = record {
     program = p.program;
     linked = linked ks s starts calls callers turned p.program p.known;
     long = p.long;
     names_long = refl;
-    no_name = λ q h. get_or-replicate 64 q 16 0 h;
+    no_name = λ q h. get_or-replicate 64 q None None h;
   }
 
   -- what the judgement leaves
-  module _ (before after names : List ℕ) (m : ℕ) (done : RoundsDone ks s starts callers before after names m) where
-    pub judged_known : (verdict : Verdict) (share : Share) (n : ℕ)
-        → Pronounces calls after names verdict share × (n ≡ m)
-        → JudgesKnown ks s starts calls before after verdict share n
-    judged_known verdict share n pr P known l =
+  module _ (before after : List ℕ) (names : List (Option ℕ)) (m : ℕ)
+      (done : RoundsDone ks s starts callers before after names m) where
+    pub judged_known : (j : Judgement) → Pronounces calls after names j → j.rounds ≡ m
+        → JudgesKnown ks s starts calls before after j
+    judged_known j pr counts P known l =
         let settled = done P (linked ks s starts calls callers turned P known) l in
         let part = settled.0 in
-        let rounds : Rounds P n = rw pr.1 settled.1 in
-        let most = rounds_le P known.holds.limits n rounds in
+        let rounds : Rounds P j.rounds = rw counts settled.1 in
+        let most = rounds_le P known.holds.limits j.rounds rounds in
         let few = known.holds.limits.few_routines in
-        let says = pr.0 P ks s starts before known part in (
+        let says = pr P ks s starts before known part in (
           record {
             model = are_models P before after names part;
             same_length = part.long;
@@ -182,8 +198,7 @@ module _ (ks s starts calls callers : List ℕ) (turned : Callers calls callers)
             rounds = rounds;
             safe = λ e. clear_is_safe P (well_formed P known.holds.limits) (rw e at says.0);
           },
-          says.2,
-          omega arith,
+          (says.2, omega arith),
         )
 
     pub finished_from : CanJudgeKnown ks s starts calls before → length after ≡ length before

@@ -1,8 +1,10 @@
 -- What the analysis leaves: its answer, the model in the lent buffer, and what the verdict clear promises.
-use Rattle.std.specs.Prelude.{◌≡◌, ◌⊎◌, List, ℕ, ◌+◌, ◌*◌, ◌≤◌, ◌<◌, length, get_or}
+use Rattle.std.specs.Prelude.{◌≡◌, ◌⊎◌, List, ℕ, ◌+◌, ◌*◌, ◌≤◌, ◌<◌, length, get_or, Result, Ok, Err}
 use Rattle.table.specs.Constants.{most_routines, most_names, row_names, row_bytes}
 use Rattle.table.specs.Program.{Program}
 use Rattle.table.specs.Check.{refused, accepted, check_table}
+use Rattle.table.specs.Refusal.{refusal_number, refusal_of}
+use Rattle.table.specs.declared.refusal.Refusal.{Refusal}
 use Rattle.rules.specs.Label.{Label, own, unknown, several}
 use Rattle.rules.specs.Model.{Row, Ring}
 use Rattle.rules.specs.Verdict.{Clear, RingAt}
@@ -13,8 +15,11 @@ use Rattle.run.specs.Run.{start, run, Turn, Safe}
 use Rattle.analysis.specs.declared.Verdict.{Verdict}
 use Rattle.analysis.specs.declared.Verdict.TheVariants.{Clear as SaysClear, Ring as SaysRing}
 use Rattle.analysis.specs.declared.Share.{Share}
-use Rattle.analysis.specs.declared.Answer.{Answer}
-use Rattle.analysis.specs.declared.Answer.TheVariants.{Judged, Refused}
+use Rattle.analysis.specs.declared.Judgement.{Judgement}
+
+-- what the analysis answers: the verdict, the share and the number of rounds, or the refusal
+abbrev pub Answer : Type 0
+Answer = Result Judgement Refusal
 
 -- the refusal of a model buffer that is too short
 abbrev pub short_buffer : ℕ
@@ -58,19 +63,29 @@ Shares P share = ShareOf P share.percent share.remainder share.reached
 abbrev pub SafeRuns : Program → Type 0
 SafeRuns P = (turns : List Turn) → Safe (run P (start P) turns)
 
--- what is left where the table holds P and its model fits the buffer; m is the number of rounds
-pub record JudgedAs (P : Program) (before after : List ℕ) (verdict : Verdict) (share : Share) (m : ℕ) : Type 0 where
+-- what is left where the table holds P and its model fits the buffer, and what is said of it
+pub record JudgedAs (P : Program) (before after : List ℕ) (j : Judgement) : Type 0 where
   pub model : Models P after
   pub same_length : length after ≡ length before
   pub rest : (i : ℕ) → row_bytes * length P ≤ i → get_or after i 0 ≡ get_or before i 0
-  pub says : Says P verdict
-  pub shares : Shares P share
-  pub rounds : Rounds P m
-  pub safe : verdict ≡ SaysClear → SafeRuns P
+  pub says : Says P j.verdict
+  pub shares : Shares P j.share
+  pub rounds : Rounds P j.rounds
+  pub safe : j.verdict ≡ SaysClear → SafeRuns P
 
--- a refusal: its number alone, and the buffer as it was
+-- the launcher's number of a verdict
+abbrev pub verdict_number : Verdict → ℕ
+verdict_number SaysClear = 0
+verdict_number (SaysRing ring) = 65536 + 1024 * ring.routine + 32 * ring.name
+
+-- the launcher's number of an answer; the share and the rounds are not in it
+abbrev pub number_of : Answer → ℕ
+number_of (Ok j) = verdict_number j.verdict
+number_of (Err r) = refusal_number r
+
+-- the refusal with that number alone, and the buffer as it was
 abbrev pub RefusedBy : ℕ → List ℕ → List ℕ → Answer → Type 0
-RefusedBy e before after answer = (answer ≡ Refused e) × (after ≡ before)
+RefusedBy e before after answer = (answer ≡ Err (refusal_of e)) × (number_of answer ≡ e) × (after ≡ before)
 
 -- the answer to a table, with the buffer before and after
 pub record Analysed (table before after : List ℕ) (answer : Answer) : Type 0 where
@@ -78,8 +93,7 @@ pub record Analysed (table before after : List ℕ) (answer : Answer) : Type 0 w
   pub refused_buffer : (P : Program) → check_table table ≡ accepted P → length before < row_bytes * length P
       → RefusedBy short_buffer before after answer
   pub judged : (P : Program) → check_table table ≡ accepted P → row_bytes * length P ≤ length before
-      → (verdict : Verdict) × (share : Share) × (m : ℕ) × (answer ≡ Judged verdict share m)
-      × JudgedAs P before after verdict share m
+      → (j : Judgement) × (answer ≡ Ok j) × JudgedAs P before after j
 
 -- a ring's numbers are those of a routine and a name of a table
 abbrev pub Short : Verdict → Type 0
@@ -92,18 +106,8 @@ most_rounds = most_changes * most_routines + 1
 
 -- the numbers of an answer are those of a table; a refusal is one of those from 1 to the last
 abbrev pub Fits : Answer → Type 0
-Fits (Judged verdict share m) = Short verdict × (m ≤ most_rounds)
-Fits (Refused e) = (1 ≤ e) × (e ≤ short_buffer)
-
--- the launcher's number of a verdict
-abbrev pub verdict_number : Verdict → ℕ
-verdict_number SaysClear = 0
-verdict_number (SaysRing ring) = 65536 + 1024 * ring.routine + 32 * ring.name
-
--- the launcher's number of an answer; the share and the rounds are not in it
-abbrev pub number_of : Answer → ℕ
-number_of (Judged verdict share m) = verdict_number verdict
-number_of (Refused e) = e
+Fits (Ok j) = Short j.verdict × (j.rounds ≤ most_rounds)
+Fits (Err r) = (1 ≤ refusal_number r) × (refusal_number r ≤ short_buffer)
 
 -- the launcher's number for a table is that of its answer
 abbrev pub AnalysedAs : List ℕ → List ℕ → List ℕ → ℕ → Type 0
@@ -111,8 +115,8 @@ AnalysedAs table before after n = (answer : Answer) × (n ≡ number_of answer) 
 
 -- the launcher's number of rounds: 65,536 + their number, or the refusal's number
 abbrev pub rounds_number : Answer → ℕ
-rounds_number (Judged verdict share m) = 65536 + m
-rounds_number (Refused e) = e
+rounds_number (Ok j) = 65536 + j.rounds
+rounds_number (Err r) = refusal_number r
 
 -- the launcher's number of rounds for a table is that of its answer
 abbrev pub RoundsAs : List ℕ → List ℕ → List ℕ → ℕ → Type 0

@@ -1,2 +1,3 @@
--- What follows from the definition, for the proofs to cite.
+-- What follows from the definitions, for the proofs to cite.
 pub mod Appending
+pub mod Putting

@@ -1,7 +1,7 @@
 -- The loop over rounds: what holds before each round, that its changes are passed on, and that the last one leaves the
 -- model.
 use mathlib.Core.Path.{◌≡◌, refl, ◌∙◌}
-use mathlib.Core.Bool.{Bool, true, false, not, ◌&&◌}
+use mathlib.Core.Bool.{Bool, true, false, ◌&&◌}
 use mathlib.Core.List.{List, [], ◌∷◌}
 use mathlib.Core.Logic.{inr}
 use Prim.Native.Nat.{ℕ, zero, suc, ◌+◌, ◌*◌, ◌/◌, ◌%◌, ◌^◌, ◌≤◌, ◌<◌}
@@ -9,6 +9,7 @@ use native.Mathlib.Omega.{arith}
 use native.Mathlib.Decide.{ℕ_discrete, dec_lt}
 use lib.Dec.{T, eqb, eqb→eq}
 use lib.ListN.{length, get_or}
+use Rattle.std.specs.Prelude.{Option, None}
 use Rattle.table.specs.Constants.{row_bytes}
 use Rattle.table.specs.Program.{Program, body}
 use Rattle.table.proofs.Laws.Sections.{routines, few}
@@ -26,6 +27,7 @@ use Rattle.rounds.proofs.Laws.Bound.{changing_le}
 use Rattle.settle.specs.Due.{All}
 use Rattle.settle.specs.Settle.{AllFresh}
 use Rattle.settle.specs.Bodies.{Linked}
+use Rattle.settle.specs.Laws.Improving.{lowest_same}
 use Rattle.byrounds.specs.Round.{CellsAre, RowIs, At, Placed, RoundStart, RoundEnd, RoundReady}
 use Rattle.byrounds.specs.Round.{Rounded, CanPass, PassedOn, AllZero, CanBegin, RoundsDone}
 use Rattle.byrounds.proofs.RoundLaws.{cells_move, same_cells_are, steady_next, to_after, to_pairs, from_pairs}
@@ -59,7 +61,7 @@ zero_row P model q z = record {
 }
 
 -- where the last round changed nothing, the rows are the model's
-module _ (P : Program) (i : ℕ) (still : Changeless P i) (before model names : List ℕ)
+module _ (P : Program) (i : ℕ) (still : Changeless P i) (before model : List ℕ) (names : List (Option ℕ))
     (long : length model ≡ length before)
     (rest : (k : ℕ) → row_bytes * length P ≤ k → get_or model k 0 ≡ get_or before k 0)
     (rows : (q : ℕ) → q < length P → At P (suc i) model names q) where
@@ -83,16 +85,14 @@ module _ (P : Program) (i : ℕ) (still : Changeless P i) (before model names : 
           let v = to_pairs P i model cells q a b m w in
           (h, (rows q h).row.cells.from a b (cut m) (m, v, ha, hb, ne, refl));
       ring = λ x w. (rows q h).row.ring_from (x, to_pairs P i model cells q x x several w);
-      name = record {
-        ring = λ l.
-            from_pairs P i model cells q (get_or names q 0) (get_or names q 0) several ((rows q h).name.ring l);
-        lowest = λ y w. (rows q h).name.lowest y (to_pairs P i model cells q y y several w);
-      };
+      name = lowest_same (get_or names q None) (λ y w. from_pairs P i model cells q y y several w)
+          (λ y w. to_pairs P i model cells q y y several w) (rows q h).name;
     };
   }
 
 -- what is passed on is what the next round begins with
-next_start : (P : Program) (i : ℕ) (old old' model names callers : List ℕ) (changed : Bool) (moved due : ℕ)
+next_start : (P : Program) (i : ℕ) (old old' model : List ℕ) (names : List (Option ℕ)) (callers : List ℕ) (changed : Bool)
+    (moved due : ℕ)
     → ((r q : ℕ) → q < length P → Calls (body P q) r → Has (get_or callers r 0) q) → due < 2 ^ length P
     → RoundEnd P i old model names changed moved → PassedOn callers moved model old old' due
     → RoundStart P (suc i) old' model names due
@@ -109,7 +109,7 @@ next_start P i old old' model names callers changed moved due callers_of below e
         (same_cells_are P i old q (end.still q h n) (end.old_cells q h))
 
 -- what holds before each round: `done` were done, and each changed something
-pub record Going (ks s starts callers old₀ from old model names : List ℕ) (due done : ℕ) : Type 0 where
+pub record Going (ks s starts callers old₀ from old model : List ℕ) (names : List (Option ℕ)) (due done : ℕ) : Type 0 where
   pub long : length model ≡ length from
   pub old_same : length old ≡ length old₀
   pub names_long : length names ≡ 64
@@ -118,12 +118,14 @@ pub record Going (ks s starts callers old₀ from old model names : List ℕ) (d
   pub changing : (P : Program) → Linked P ks s starts callers → (j : ℕ) → j < done → Changeless P j → ⊥
 
 -- what holds before the round of this number
-pub record Numbered (ks s starts callers old₀ from old model names : List ℕ) (due number : ℕ) : Type 0 where
+pub record Numbered (ks s starts callers old₀ from old model : List ℕ) (names : List (Option ℕ)) (due number : ℕ)
+    : Type 0 where
   pub done : ℕ
   pub next : number ≡ done + 1
   pub going : Going ks s starts callers old₀ from old model names due done
 
-module _ (ks s starts callers old₀ from first : List ℕ) (start : AllZero ks s starts callers old₀ from first) where
+module _ {ks s starts callers old₀ from : List ℕ} {first : List (Option ℕ)}
+    (start : AllZero ks s starts callers old₀ from first) where
   count : length ks ≡ length start.program
   count = routines start.program ks s start.linked.holds
 
@@ -144,10 +146,7 @@ module _ (ks s starts callers old₀ from first : List ℕ) (start : AllZero ks 
           old_cells = λ q h. zero_cells P old₀ q (λ i l. start.old_zero (65 * q + i));
           rows = λ q h. record {
             row = zero_row P from q (λ i l. start.zero (65 * q + i) (omega arith));
-            name = record {
-              ring = λ l. absurd (let y = start.no_name q (omega arith) in omega arith);
-              lowest = λ y w. absurd w;
-            };
+            name = rw (start.no_name q (omega arith)) (λ y w. w);
           };
           steady = λ q h n. absurd (n (all.bits.from q (omega arith)));
           below = rw e at all.below;
@@ -155,7 +154,7 @@ module _ (ks s starts callers old₀ from first : List ℕ) (start : AllZero ks 
     changing = λ P k j h. absurd (omega arith);
   }
 
-  module _ (old model names : List ℕ) (due done : ℕ)
+  module _ {old model : List ℕ} {names : List (Option ℕ)} {due done : ℕ}
       (go : Going ks s starts callers old₀ from old model names due done) where
     pub few_done : done ≤ 148 * length ks
     few_done =
@@ -181,7 +180,7 @@ module _ (ks s starts callers old₀ from first : List ℕ) (start : AllZero ks 
           names_long = go.names_long;
         }
 
-    module _ (model' names' : List ℕ) (changed : Bool) (moved : ℕ)
+    module _ {model' : List ℕ} {names' : List (Option ℕ)} {changed : Bool} {moved : ℕ}
         (round : Rounded ks s starts due old model model' names names' changed moved) where
       ended : (P : Program) → Linked P ks s starts callers → RoundEnd P done old model' names' changed moved
       ended P k = round.told P done (placed P ks s starts callers k) (go.told P k)
@@ -221,7 +220,7 @@ module _ (ks s starts callers old₀ from first : List ℕ) (start : AllZero ks 
           }
 
       -- it changed something: another follows
-      module _ (some : changed ≡ true) (old' : List ℕ) (due' : ℕ) (pass : PassedOn callers moved model' old old' due')
+      module _ (some : changed ≡ true) {old' : List ℕ} {due' : ℕ} (pass : PassedOn callers moved model' old old' due')
         where
           changed_too : (P : Program) → Linked P ks s starts callers → (j : ℕ) → j < suc done → Changeless P j → ⊥
           changed_too P k j h c = at (ℕ_discrete j done)
@@ -244,15 +243,6 @@ module _ (ks s starts callers old₀ from first : List ℕ) (start : AllZero ks 
               e : done + 1 ≡ suc done
               e = omega arith
 
--- a flag as code tests that it is not up
-pub flag_down : (b : Bool) → not b ≡ true → b ≡ false
-flag_down true e = absurd (let o : ◌≡◌ {A = ℕ} 0 1 = cc in omega arith)
-flag_down false e = refl
-
-pub flag_up : (b : Bool) → not b ≡ false → b ≡ true
-flag_up true e = refl
-flag_up false e = absurd (let o : ◌≡◌ {A = ℕ} 0 1 = cc in omega arith)
-
 -- a list of zeros alone, as a test
 abbrev zeros? : List ℕ → Bool
 zeros? [] = true
@@ -263,7 +253,7 @@ zeros_at [] t i = refl
 zeros_at (x ∷ l) t zero = eqb→eq x 0 (halves (eqb x 0) (zeros? l) t).0
 zeros_at (x ∷ l) t (suc i) = zeros_at l (halves (eqb x 0) (zeros? l) t).1 i
 
-module _ (ks s starts callers before names : List ℕ) (p : CanBegin ks s starts callers before names) where
+module _ {ks s starts callers before : List ℕ} {names : List (Option ℕ)} (p : CanBegin ks s starts callers before names) where
   pub few_rows : 65 * length ks ≤ 4160
   few_rows = let f = few ks s (p.program, p.linked.holds) in omega arith
 
@@ -271,9 +261,9 @@ module _ (ks s starts callers before names : List ℕ) (p : CanBegin ks s starts
   room = let e = routines p.program ks s p.linked.holds in let l = p.long in omega arith
 
   -- cleared rows are those before the first round
-  pub all_zero : (cleared old : List ℕ) → Cleared 0 (65 * length ks) before cleared → 65 * length ks ≤ length old
+  pub all_zero : {cleared old : List ℕ} → Cleared 0 (65 * length ks) before cleared → 65 * length ks ≤ length old
       → T (zeros? old) → AllZero ks s starts callers old cleared names
-  all_zero cleared old k long none =
+  all_zero {old = old} k long none =
       let e = routines p.program ks s p.linked.holds in
       let l = p.long in
       let g = k.long in
@@ -289,9 +279,9 @@ module _ (ks s starts callers before names : List ℕ) (p : CanBegin ks s starts
       }
 
   -- what was done from cleared rows was done from the buffer
-  pub done_from : (cleared after names' : List ℕ) (m : ℕ) → Cleared 0 (65 * length ks) before cleared
+  pub done_from : {cleared after : List ℕ} {names' : List (Option ℕ)} {m : ℕ} → Cleared 0 (65 * length ks) before cleared
       → RoundsDone ks s starts callers cleared after names' m → RoundsDone ks s starts callers before after names' m
-  done_from cleared after names' m k d P known l =
+  done_from k d P known l =
       let e = routines P ks s known.holds in
       let g = k.long in
       let w = d P known (omega arith) in

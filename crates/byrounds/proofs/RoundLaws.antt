@@ -10,6 +10,7 @@ use native.Mathlib.Omega.{arith}
 use native.Mathlib.Decide.{ℕ_discrete, dec_lt}
 use lib.ListN.{length, get_or}
 use lib.Seq.{ext_get_or}
+use Rattle.std.specs.Prelude.{Option, None}
 use Rattle.table.specs.Program.{Program, params, body}
 use Rattle.rules.specs.Label.{Label, own, unknown, several}
 use Rattle.rules.specs.Verdict.{Calls}
@@ -22,6 +23,7 @@ use Rattle.rounds.proofs.Laws.LeastGiven.{Within, derived_mono}
 use Rattle.rounds.specs.Laws.Steps.{Steady, SameRow}
 use Rattle.rounds.proofs.Laws.Steps.{adds, rows_add, rings_add, none_beyond, steady_same}
 use Rattle.settle.specs.Settle.{WorkedOut, Improved}
+use Rattle.settle.specs.Laws.Improving.{lowest_same}
 use Rattle.byrounds.specs.Round.{CellsAre, RowIs, NamedIn, At, SameCells}
 
 -- cells that have the same bytes are after as many rounds
@@ -101,7 +103,7 @@ row_unique P j model after q m n i h = go (dec_lt i 64)
 
 -- a steady routine has its row and its ring name after the next round too
 module _ (P : Program) (i q : ℕ) (steady : Steady P i q) where
-  pub steady_at : (model names : List ℕ) → At P i model names q → At P (suc i) model names q
+  pub steady_at : (model : List ℕ) (names : List (Option ℕ)) → At P i model names q → At P (suc i) model names q
   steady_at model names x = record {
     row = record {
       cells = record {
@@ -112,10 +114,7 @@ module _ (P : Program) (i q : ℕ) (steady : Steady P i q) where
       ring_from = λ w. x.row.ring_from ((steady_same P i q steady).ring w);
       shaped = x.row.shaped;
     };
-    name = record {
-      ring = λ l. adds P i q (get_or names q 0) (get_or names q 0) several (x.name.ring l);
-      lowest = λ y w. x.name.lowest y (steady y y several w);
-    };
+    name = lowest_same (get_or names q None) (λ y w. adds P i q y y several w) (λ y w. steady y y several w) x.name;
   }
 
 -- cells that are left as they were are after one round more
@@ -157,7 +156,7 @@ module _ (P : Program) (i : ℕ) (rows : List ℕ) (cells : (q : ℕ) → q < le
 
 -- routine r is worked out from cells that are all after i rounds
 module _ (P : Program) (i : ℕ) (old : List ℕ) (old_cells : (q : ℕ) → q < length P → CellsAre P i old q)
-    (model after : List ℕ) (r : ℕ) (cells last : Bool) (x : ℕ) (lt : r < length P)
+    (model after : List ℕ) (r : ℕ) (cells last : Bool) (x : Option ℕ) (lt : r < length P)
     (imp : Improved P old model after r cells last x) where
   add : RowAdded model after r (params P r) imp.grid cells last x
   add = imp.added
@@ -189,10 +188,7 @@ module _ (P : Program) (i : ℕ) (old : List ℕ) (old_cells : (q : ℕ) → q <
       grid_ring g = (g.0, of_grid g.0 g.0 several (imp.pairs.only g.0 g.0 several g.1))
 
   pub next_name : NamedIn P (suc i) r x
-  next_name = record {
-    ring = λ l. of_grid x x several (imp.named.ring l);
-    lowest = λ y w. imp.named.lowest y (in_grid y y several w);
-  }
+  next_name = lowest_same x (λ y w. of_grid y y several w) (λ y w. in_grid y y several w) imp.named
 
   -- the bytes of the other rows
   pub other_bytes : (q j : ℕ) → q ≢ r → j < 65 → get_or after (65 * q + j) 0 ≡ get_or model (65 * q + j) 0

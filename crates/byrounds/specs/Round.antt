@@ -1,7 +1,7 @@
 -- One round over the buffer: rows that are those after j rounds, what the round leaves, and what is passed on to the
 -- next.
-use Rattle.std.specs.Prelude.{◌≡◌, ◌≢◌, Bool, true, false, List, ℕ, suc, ◌+◌, ◌*◌, ◌^◌, ◌≤◌, ◌<◌, length, get_or}
-use Rattle.table.specs.Constants.{most_routines, most_names, row_cells, row_bytes}
+use Rattle.std.specs.Prelude.{◌≡◌, ◌≢◌, Bool, true, false, List, ℕ, suc, ◌+◌, ◌*◌, ◌^◌, ◌≤◌, ◌<◌, length, get_or, Option, None}
+use Rattle.table.specs.Constants.{most_routines, row_cells, row_bytes}
 use Rattle.table.specs.Program.{Program}
 use Rattle.table.specs.Laws.Sections.{Holds}
 use Rattle.rules.specs.Label.{Label, several}
@@ -11,7 +11,7 @@ use Rattle.rows.specs.Model.{ShapedRow}
 use Rattle.rounds.specs.Rounds.{PairsIn, RowsAfter, RingAfter, Changeless, Rounds}
 use Rattle.rounds.specs.Laws.Steps.{Steady, SameRow}
 use Rattle.settle.specs.Due.{Below}
-use Rattle.settle.specs.Settle.{AllFresh}
+use Rattle.settle.specs.Settle.{LowestOf, AllFresh}
 use Rattle.settle.specs.Bodies.{Linked, start_of}
 
 -- the cells of the row of routine q in the buffer are those after j rounds
@@ -26,15 +26,14 @@ pub record RowIs (P : Program) (j : ℕ) (model : List ℕ) (q : ℕ) : Type 0 w
   pub ring_from : RingAfter P j q → RingByte model q
   pub shaped : ShapedRow model q
 
--- x is the lowest name with a ring that round j works out for routine q, or 16 where there is none
-pub record NamedIn (P : Program) (j q x : ℕ) : Type 0 where
-  pub ring : x < most_names → PairsIn P j q x x several
-  pub lowest : (y : ℕ) → PairsIn P j q y y several → (x ≤ y) × (x < most_names)
+-- the lowest name with a ring that round j works out for routine q, if there is one
+abbrev pub NamedIn : Program → ℕ → ℕ → Option ℕ → Type 0
+NamedIn P j q = LowestOf (λ x. PairsIn P j q x x several)
 
 -- the row and the ring name of routine q are those after j rounds
-pub record At (P : Program) (j : ℕ) (model names : List ℕ) (q : ℕ) : Type 0 where
+pub record At (P : Program) (j : ℕ) (model : List ℕ) (names : List (Option ℕ)) (q : ℕ) : Type 0 where
   pub row : RowIs P j model q
-  pub name : NamedIn P j q (get_or names q 0)
+  pub name : NamedIn P j q (get_or names q None)
 
 -- round i + 1 leaves the cells of routine q as they were
 abbrev pub SameCells : Program → ℕ → ℕ → Type 0
@@ -47,7 +46,7 @@ pub record Placed (P : Program) (ks s starts : List ℕ) : Type 0 where
   pub starts_long : length starts ≡ length P
 
 -- i rounds are done, and the next has nothing new for a routine that is not due
-pub record RoundStart (P : Program) (i : ℕ) (old model names : List ℕ) (due : ℕ) : Type 0 where
+pub record RoundStart (P : Program) (i : ℕ) (old model : List ℕ) (names : List (Option ℕ)) (due : ℕ) : Type 0 where
   pub old_cells : (q : ℕ) → q < length P → CellsAre P i old q
   pub rows : (q : ℕ) → q < length P → At P i model names q
   pub steady : (q : ℕ) → q < length P → (Has due q → ⊥) → Steady P i q
@@ -55,7 +54,8 @@ pub record RoundStart (P : Program) (i : ℕ) (old model names : List ℕ) (due 
 
 -- round i + 1 is done too: the flag tells whether it changed anything, and the mask has each routine with a cell that
 -- it changed
-pub record RoundEnd (P : Program) (i : ℕ) (old model names : List ℕ) (changed : Bool) (moved : ℕ) : Type 0 where
+pub record RoundEnd (P : Program) (i : ℕ) (old model : List ℕ) (names : List (Option ℕ)) (changed : Bool) (moved : ℕ)
+    : Type 0 where
   pub old_cells : (q : ℕ) → q < length P → CellsAre P i old q
   pub rows : (q : ℕ) → q < length P → At P (suc i) model names q
   pub same : changed ≡ false → (q : ℕ) → q < length P → SameRow P i q
@@ -64,7 +64,7 @@ pub record RoundEnd (P : Program) (i : ℕ) (old model names : List ℕ) (change
   pub below : moved < 2 ^ length P
 
 -- a round can begin
-pub record RoundReady (ks s starts : List ℕ) (due : ℕ) (old model names : List ℕ) : Type 0 where
+pub record RoundReady (ks s starts : List ℕ) (due : ℕ) (old model : List ℕ) (names : List (Option ℕ)) : Type 0 where
   pub program : Program
   pub placed : Placed program ks s starts
   pub done : ℕ
@@ -74,8 +74,8 @@ pub record RoundReady (ks s starts : List ℕ) (due : ℕ) (old model names : Li
   pub names_long : length names ≡ most_routines
 
 -- a round was done
-pub record Rounded (ks s starts : List ℕ) (due : ℕ) (old before after names names' : List ℕ) (changed : Bool)
-    (moved : ℕ) : Type 0 where
+pub record Rounded (ks s starts : List ℕ) (due : ℕ) (old before after : List ℕ) (names names' : List (Option ℕ))
+    (changed : Bool) (moved : ℕ) : Type 0 where
   pub long : length after ≡ length before
   pub names_long : length names' ≡ most_routines
   pub rest : (i : ℕ) → row_bytes * length ks ≤ i → get_or after i 0 ≡ get_or before i 0
@@ -110,7 +110,7 @@ pub record PassedOn (callers : List ℕ) (moved : ℕ) (model before after : Lis
   pub below : (n : ℕ) → Below callers n → due < 2 ^ n
 
 -- all rows and ring names are those before the first round
-pub record AllZero (ks s starts callers old model names : List ℕ) : Type 0 where
+pub record AllZero (ks s starts callers old model : List ℕ) (names : List (Option ℕ)) : Type 0 where
   pub program : Program
   pub linked : Linked program ks s starts callers
   pub old_long : row_bytes * length program ≤ length old
@@ -118,18 +118,18 @@ pub record AllZero (ks s starts callers old model names : List ℕ) : Type 0 whe
   pub names_long : length names ≡ most_routines
   pub old_zero : (i : ℕ) → get_or old i 0 ≡ 0
   pub zero : (i : ℕ) → i < row_bytes * length program → get_or model i 0 ≡ 0
-  pub no_name : (q : ℕ) → q < most_routines → get_or names q 0 ≡ most_names
+  pub no_name : (q : ℕ) → q < most_routines → get_or names q None ≡ None
 
 -- the rows can be worked out, and no ring name is known
-pub record CanBegin (ks s starts callers model names : List ℕ) : Type 0 where
+pub record CanBegin (ks s starts callers model : List ℕ) (names : List (Option ℕ)) : Type 0 where
   pub program : Program
   pub linked : Linked program ks s starts callers
   pub long : row_bytes * length program ≤ length model
   pub names_long : length names ≡ most_routines
-  pub no_name : (q : ℕ) → q < most_routines → get_or names q 0 ≡ most_names
+  pub no_name : (q : ℕ) → q < most_routines → get_or names q None ≡ None
 
 -- the rounds were done: the rows are the model's, the list has the ring names, and m is the number of rounds
-abbrev pub RoundsDone : List ℕ → List ℕ → List ℕ → List ℕ → List ℕ → List ℕ → List ℕ → ℕ → Type 0
+abbrev pub RoundsDone : List ℕ → List ℕ → List ℕ → List ℕ → List ℕ → List ℕ → List (Option ℕ) → ℕ → Type 0
 RoundsDone ks s starts callers before after names m =
     (P : Program) → Linked P ks s starts callers → row_bytes * length P ≤ length before
     → AllFresh P before after names × Rounds P m

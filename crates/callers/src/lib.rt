@@ -15,24 +15,25 @@ ghost use Rattle.writer.specs.Answer.{Writes, WritesAs};
 ghost use Rattle.writer.specs.Answer.{Fits as WrittenFits};
 ghost use Rattle.callers.specs.Calls.{clear?, stuck?};
 
-use analysis::{Answer, Verdict, analyse, vangpear_analyse, vangpear_check, vangpear_rounds};
+use analysis::{Judgement, Verdict, analyse, vangpear_analyse, vangpear_check, vangpear_rounds};
 use dearest::write_chain;
 use listing::list;
-use runner::{Desk, Ran, Report, run_fresh, run_schedule, vangpear_run};
+use runner::{Desk, Ending, Report, Stop, run_fresh, run_schedule, vangpear_run};
 use steps::thread::Thread;
-use table::{Checked, check};
-use update::{Updated, update, vangpear_update};
-use writer::{Written, canonical, vangpear_canonical};
+use table::refusal::Refusal;
+use table::{Accepted, check};
+use update::{update, vangpear_update};
+use writer::{canonical, vangpear_canonical};
 
 // Calls `check`.
-pub fn checked(table: &[u8]) -> Checked
+pub fn checked(table: &[u8]) -> Result<Accepted, Refusal>
     ensures { result ≡ checked_of (check_table table.now) }
 {
     check(table)
 }
 
 // Calls `analyse`.
-pub fn analysed(table: &[u8], model: &mut [u8]) -> Answer
+pub fn analysed(table: &[u8], model: &mut [u8]) -> Result<Judgement, Refusal>
     ensures analysed { Analysed table.now model.old model.new result }
     ensures fits { Fits result }
 {
@@ -77,7 +78,7 @@ pub fn ran(table: &[u8], schedule: &[u8], n: usize) -> Desk
 }
 
 // Calls `run_schedule`.
-pub fn ran_schedule(table: &[u8], schedule: &[u8], records: &mut [Thread]) -> Ran
+pub fn ran_schedule(table: &[u8], schedule: &[u8], records: &mut [Thread]) -> Result<Stop, Refusal>
     ensures { Runs (check_table table.now) schedule.now records.old
         records.new result }
 {
@@ -93,7 +94,7 @@ pub fn ran_for_c(table: &[u8], schedule: &[u8], records: &mut [Thread]) -> Repor
 }
 
 // Calls `update`.
-pub fn brought(old: &[u8], new: &[u8], routine: u64, model: &mut [u8]) -> Updated
+pub fn brought(old: &[u8], new: &[u8], routine: u64, model: &mut [u8]) -> Result<(), Refusal>
     ensures replaced { Replaced old.now new.now routine model.old
         model.new result }
     ensures fits { UpdateFits result }
@@ -110,7 +111,7 @@ pub fn brought_for_c(old: &[u8], new: &[u8], routine: u64, model: &mut [u8]) -> 
 }
 
 // Calls `canonical`.
-pub fn written(table: &[u8], out: &mut [u8]) -> Written
+pub fn written(table: &[u8], out: &mut [u8]) -> Result<usize, Refusal>
     ensures writes { Writes table.now out.old out.new result }
     ensures fits { WrittenFits result }
 {
@@ -132,29 +133,25 @@ pub fn chained(n: usize, out: &mut [u8]) -> usize
 }
 
 // Whether an answer is that the table is clear.
-fn is_clear(a: Answer) -> bool
+fn is_clear(a: Result<Judgement, Refusal>) -> bool
     ensures { result ≡ clear? a }
 {
-    match a {
-        Answer::Refused(_) => false,
-        Answer::Judged(v, _, _) => match v {
-            Verdict::Clear => true,
-            Verdict::Ring(_) => false,
-        },
-    }
+    matches!(
+        a,
+        Ok(Judgement {
+            verdict: Verdict::Clear,
+            ..
+        })
+    )
 }
 
 // Whether an answer is that the run is stuck.
-fn is_stuck(r: Ran) -> bool
+fn is_stuck(r: Result<Stop, Refusal>) -> bool
     ensures { result ≡ stuck? r }
 {
     match r {
-        Ran::Refused(_) => false,
-        Ran::Ended(_) => false,
-        Ran::Stuck(_) => true,
-        Ran::Open(_) => false,
-        Ran::Unstarted(_) => false,
-        Ran::Beyond(_) => false,
+        Ok(x) => x.ending == Ending::Stuck,
+        Err(_) => false,
     }
 }
 

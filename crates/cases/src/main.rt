@@ -7,53 +7,36 @@ ghost use Rattle.std.specs.Prelude.{◌<◌};
 
 use input::read_input;
 use listing::LONGEST;
-use table::scope::size;
 
 // How many bytes of model buffer are lent at most.
 const MODEL_BYTES: usize = 65536;
 
-// The number of two bytes.
-fn number(low: u8, high: u8) -> usize
-    ensures { result < 65536 }
-{
-    size(low) + 256 * size(high)
-}
+// How much of standard input is read.
+const READ_LIMIT: usize = 262144;
 
-// Writes the listing of a table that is analysed with so many bytes of model buffer.
-fn case(rt: &impl Print, table: &[u8], lent: usize)
-    requires { lent < 65536 }
-{
+// Writes the listing of a table that is analysed with so many bytes of model buffer; a write that fails is passed over.
+fn case(rt: &impl Print, table: &[u8], lent: u16) {
     let mut model = [0u8; MODEL_BYTES];
     let mut text = [0u8; LONGEST];
-    let n = listing::list(table, &mut model[..lent], &mut text);
+    let n = listing::list(table, &mut model[..usize::from(lent)], &mut text);
     let _ = rt.write_all(&text[..n]);
 }
 
 // Goes through the frames.
-fn frames(rt: &impl Print, s: &[u8]) {
-    let mut at: usize = 0;
-    while at < s.len() {
-        let left = s.len() - at;
-        if left < 4 {
+fn frames(rt: &impl Print, mut s: &[u8]) {
+    while let [lent_low, lent_high, low, high, rest @ ..] = s {
+        let length = usize::from(u16::from_le_bytes([*low, *high]));
+        let Some((table, behind)) = rest.split_at_checked(length) else {
             return;
-        }
-        let lent = number(s[at], s[at + 1]);
-        let length = number(s[at + 2], s[at + 3]);
-        if left - 4 < length {
-            return;
-        }
-        let from = at + 4;
-        let to = from + length;
-        case(rt, &s[from..to], lent);
-        at = to;
+        };
+        case(rt, table, u16::from_le_bytes([*lent_low, *lent_high]));
+        s = behind;
     }
 }
 
-// How much of standard input is read.
-const READ_LIMIT: usize = 262144;
-
+// Goes through what can be read.
 fn main(rt: HostRuntime) {
     let mut input = [0u8; READ_LIMIT];
-    let n = read_input(rt.stdin(), &mut input).size;
+    let n = read_input(rt.stdin(), &mut input).unwrap_or_else(|e| e.size);
     frames(&rt, &input[..n]);
 }

@@ -3,28 +3,28 @@
 #![tactic(auto)]
 
 use dearest::{LONGEST, write_chain};
-use input::read_input;
-use table::scope::size;
+use input::answer_input;
+use std::io;
 
-// Writes the table of the chain of n routines; whether it could be written.
-fn write_table(rt: &impl Print, n: usize) -> bool {
+// Writes the table of the chain of n routines.
+fn write_table(rt: &impl Print, n: usize) -> io::Result<()> {
     let mut table = [0u8; LONGEST];
     let length = write_chain(n, &mut table);
-    rt.write_all(&table[..length]).is_ok()
+    rt.write_all(&table[..length])
 }
 
-// Answers standard input, or says what cannot be read or written.
+// Writes the table of the chain that the first byte gives the number of; nothing where there is no byte.
+fn answer(rt: &impl Print, s: &[u8]) -> io::Result<()> {
+    match s.first() {
+        Some(n) => write_table(rt, usize::from(*n)),
+        None => Ok(()),
+    }
+}
+
+// Answers standard input, or says what cannot be read or written; the exit status is 0 all the same.
 fn main(rt: HostRuntime) {
     let mut first = [0u8; 1];
-    let input = read_input(rt.stdin(), &mut first);
-    if input.failed {
-        let _ = rt.eprintln("chain: standard input cannot be read");
-        return;
-    }
-    if input.size == 0 {
-        return;
-    }
-    if !write_table(&rt, size(first[0])) {
-        let _ = rt.eprintln("chain: standard output cannot be written");
+    if let Err(e) = answer_input(rt.stdin(), &mut first, |s| answer(&rt, s)) {
+        let _ = eprintln!(rt; "chain: {e}");
     }
 }

@@ -5,11 +5,11 @@ ghost use Rattle.std.specs.Prelude.{◌≡◌, ◌+◌, ◌≤◌, ◌<◌};
 ghost use Rattle.table.specs.Constants.{most_routines, END as closed-by-END};
 ghost use Rattle.table.specs.Program.{end, lock, body};
 ghost use Rattle.table.specs.Encoding.{encode, encode_bodies, counts};
-ghost use Rattle.append.specs.Appends.{Appends};
+ghost use Rattle.append.specs.Puts.{Puts};
 ghost use Rattle.rounds.specs.Chain.{params_of, passing, opposing, chain, chain_table};
 ghost use Rattle.dearest.specs.Written.{Written};
 
-use append::{put, put_byte};
+use append::Text;
 use table::limits::{CALL, END, FORK, LOCK, MOST_ROUTINES, NEW};
 
 // How many bytes the body of a routine that calls the next one has.
@@ -29,82 +29,74 @@ fn params_of(r: usize) -> u8
 }
 
 // Appends the parameter counts of n routines.
-fn put_counts(out: &mut [u8], at: usize, n: usize) -> usize
-    requires { (at ≤ 1) × (n ≤ most_routines) }
-    ensures { Appends at (counts (chain n)) out.old out.new result }
+fn put_counts(text: &mut Text<'_>, n: usize)
+    requires { (text.old.at ≤ 1) × (n ≤ most_routines) }
+    ensures { Puts (counts (chain n)) text.old text.new }
 {
-    let mut p = at;
     for r in 0..n {
-        let next = put_byte(out, p, params_of(r));
-        p = next;
+        text.put_byte(params_of(r));
     }
-    p
 }
 
 // Appends the body of a routine that calls routine q.
-fn put_passing(out: &mut [u8], at: usize, q: u8) -> usize
-    requires { at < 2000 }
-    ensures { Appends at (encode closed-by-END (passing 0 q)) out.old out.new result }
+fn put_passing(text: &mut Text<'_>, q: u8)
+    requires { text.old.at < 2000 }
+    ensures { Puts (encode closed-by-END (passing 0 q)) text.old text.new }
 {
-    put(out, at, &[NEW, NEW, CALL, q, 1, 2, END])
+    text.put(&[NEW, NEW, CALL, q, 1, 2, END]);
 }
 
 // Appends a block or body that is a LOCK on x with a LOCK on y in its block.
-fn put_locks(out: &mut [u8], at: usize, x: u8, y: u8) -> usize
-    requires { at < 3000 }
-    ensures { Appends at (encode closed-by-END (lock x (lock y end end) end))
-        out.old out.new result }
+fn put_locks(text: &mut Text<'_>, x: u8, y: u8)
+    requires { text.old.at < 3000 }
+    ensures { Puts (encode closed-by-END (lock x (lock y end end) end)) text.old text.new }
 {
-    put(out, at, &[LOCK, x, LOCK, y, END, END, END])
+    text.put(&[LOCK, x, LOCK, y, END, END, END]);
 }
 
 // Appends the body of the last routine.
-fn put_opposing(out: &mut [u8], at: usize) -> usize
-    requires { at < 2000 }
-    ensures { Appends at (encode closed-by-END (opposing 0)) out.old out.new result }
+fn put_opposing(text: &mut Text<'_>)
+    requires { text.old.at < 2000 }
+    ensures { Puts (encode closed-by-END (opposing 0)) text.old text.new }
 {
-    let a = put(out, at, &[NEW, NEW, FORK]);
-    let b = put_locks(out, a, 1, 2);
-    put_locks(out, b, 2, 1)
+    text.put(&[NEW, NEW, FORK]);
+    put_locks(text, 1, 2);
+    put_locks(text, 2, 1);
 }
 
 // Appends the body of routine r of n.
-fn put_body(out: &mut [u8], at: usize, r: usize, n: usize) -> usize
-    requires { (at < 2000) × (r < n) × (n ≤ most_routines) }
-    ensures appends { Appends at (encode closed-by-END (body (chain n) r)) out.old out.new result }
-    ensures few { result ≤ at + 17 }
+fn put_body(text: &mut Text<'_>, r: usize, n: usize)
+    requires { (text.old.at < 2000) × (r < n) × (n ≤ most_routines) }
+    ensures appends { Puts (encode closed-by-END (body (chain n) r)) text.old text.new }
+    ensures few { text.new.at ≤ text.old.at + 17 }
 {
     if r + 1 < n {
-        put_passing(out, at, (r + 1) as u8)
+        put_passing(text, (r + 1) as u8);
     } else {
-        put_opposing(out, at)
+        put_opposing(text);
     }
 }
 
 // Appends the bodies of n routines.
-fn put_bodies(out: &mut [u8], at: usize, n: usize) -> usize
-    requires { (at < 100) × (n ≤ most_routines) }
-    ensures { Appends at (encode_bodies (chain n)) out.old out.new result }
+fn put_bodies(text: &mut Text<'_>, n: usize)
+    requires { (text.old.at < 100) × (n ≤ most_routines) }
+    ensures { Puts (encode_bodies (chain n)) text.old text.new }
 {
-    let mut p = at;
     for r in 0..n {
-        let next = put_body(out, p, r, n);
-        p = next;
+        put_body(text, r, n);
     }
-    p
 }
 
-// Writes the table of the chain of n routines.
-fn put_table(out: &mut [u8], n: usize) -> usize
-    requires { (1 ≤ n) × (n ≤ most_routines) }
-    ensures { Appends 0 (chain_table n) out.old out.new result }
+// Appends the table of the chain of n routines.
+fn put_table(text: &mut Text<'_>, n: usize)
+    requires { (text.old.at ≡ 0) × (1 ≤ n) × (n ≤ most_routines) }
+    ensures { Puts (chain_table n) text.old text.new }
 {
     let size = PASSING_BYTES * (n - 1) + OPPOSING_BYTES;
-    let a = put_byte(out, 0, n as u8);
-    let b = put_counts(out, a, n);
-    let c = put_byte(out, b, (size % 256) as u8);
-    let d = put_byte(out, c, (size / 256) as u8);
-    put_bodies(out, d, n)
+    text.put_byte(n as u8);
+    put_counts(text, n);
+    text.put(&(size as u16).to_le_bytes());
+    put_bodies(text, n);
 }
 
 // Writes the table of the chain of n routines, and gives its length; where there is no such chain, nothing and 0. What
@@ -118,5 +110,7 @@ pub fn write_chain(n: usize, out: &mut [u8]) -> usize
     if MOST_ROUTINES < n {
         return 0;
     }
-    put_table(out, n)
+    let mut text = Text::new(out);
+    put_table(&mut text, n);
+    text.at
 }

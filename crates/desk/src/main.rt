@@ -3,16 +3,14 @@
 // and the schedule. A byte that is missing of the first three is 0.
 #![tactic(auto)]
 
-mod bytes;
-mod places;
-mod text;
 mod threads;
 
-use bytes::{least, number_at};
-use input::read_input;
-use runner::{Desk, Extent, Ran, run_fresh};
-use steps::machine::{BEYOND, UNSTARTED};
-use text::{write_one, write_two};
+use input::answer_input;
+use runner::{Desk, Ending, Report, Stop, run_fresh};
+use std::io;
+use steps::limits::MOST_THREADS;
+use table::refusal::Refusal;
+use table::sections::Sections;
 use threads::write_threads;
 
 // How many bytes stand before the table.
@@ -24,90 +22,55 @@ const MOST_TABLE: usize = 65535;
 // How many bytes of a schedule are read at most.
 const MOST_SCHEDULE: usize = 65536;
 
-// Where the parameter counts stand in a table: behind the number of routines.
-const COUNTS_AT: usize = 1;
-
-// How many bytes stand between the parameter counts and the body section: those of the section's length.
-const LENGTH: usize = 2;
-
 // How much of standard input is read at most.
 const READ_LIMIT: usize = HEAD + MOST_TABLE + MOST_SCHEDULE;
 
 // Writes the first line of an answer.
-fn write_answer(rt: &impl Print, ran: Ran) -> bool {
-    match ran {
-        Ran::Refused(e) => write_two(rt, b"refused", e, 0),
-        Ran::Ended(x) => write_one(rt, b"ended", x.read as u64),
-        Ran::Stuck(x) => write_one(rt, b"stuck", x.read as u64),
-        Ran::Open(x) => write_one(rt, b"open", x.read as u64),
-        Ran::Unstarted(x) => write_two(rt, b"refused", UNSTARTED, x.read as u64),
-        Ran::Beyond(x) => write_two(rt, b"refused", BEYOND, x.read as u64),
+fn write_answer(rt: &impl Print, ran: Result<Stop, Refusal>) -> io::Result<()> {
+    let stop = match ran {
+        Ok(stop) => stop,
+        Err(r) => return println!(rt; "refused {} 0", u32::from(r)),
+    };
+    let read = stop.extent.read;
+    match stop.ending {
+        Ending::Ended => println!(rt; "ended {read}"),
+        Ending::Stuck => println!(rt; "stuck {read}"),
+        Ending::Open => println!(rt; "open {read}"),
+        Ending::Unstarted | Ending::Beyond => {
+            println!(rt; "refused {} {read}", Report::from(stop).answer)
+        }
     }
 }
 
-// How far a run came; nowhere where the table is refused.
-fn extent(ran: Ran) -> Extent {
-    match ran {
-        Ran::Refused(_) => Extent {
-            read: 0,
-            threads: 0,
-            locks: 0,
-        },
-        Ran::Ended(x) => x,
-        Ran::Stuck(x) => x,
-        Ran::Open(x) => x,
-        Ran::Unstarted(x) => x,
-        Ran::Beyond(x) => x,
+// Writes how a run of a table came out, and where a thread was started the locks made and the threads.
+fn write_desk(rt: &impl Print, table: &[u8], d: &Desk) -> io::Result<()> {
+    write_answer(rt, d.ran)?;
+    match (d.ran, Sections::of(table)) {
+        (Ok(stop), Ok(sections)) if stop.extent.threads != 0 => {
+            println!(rt; "locks {}", stop.extent.locks)?;
+            let started = stop.extent.threads.min(MOST_THREADS);
+            write_threads(rt, &sections, &d.records[..started])
+        }
+        _ => Ok(()),
     }
 }
 
-// Writes the lines of the state that a run of a table came to: the locks made, and the threads started.
-fn write_state(rt: &impl Print, table: &[u8], d: Desk, x: Extent) -> bool {
-    if !write_one(rt, b"locks", x.locks as u64) {
-        return false;
-    }
-    let n = number_at(table, 0);
-    let from = least(COUNTS_AT, table.len());
-    let to = least(COUNTS_AT + n, table.len());
-    let body = least(COUNTS_AT + n + LENGTH, table.len());
-    write_threads(rt, &table[from..to], &table[body..], d, x.threads)
+// Takes an input apart, runs its table under its schedule and writes the answer.
+fn answer(rt: &impl Print, s: &[u8]) -> io::Result<()> {
+    let byte = |i: usize| s.get(i).copied().unwrap_or(0);
+    let lent = usize::from(byte(0));
+    let length = usize::from(u16::from_le_bytes([byte(1), byte(2)]));
+    let rest = s.get(HEAD..).unwrap_or(&[]);
+    let (table, rest) = rest.split_at(length.min(rest.len()));
+    let schedule = &rest[..rest.len().min(MOST_SCHEDULE)];
+    let d = run_fresh(table, schedule, lent);
+    write_desk(rt, table, &d)
 }
 
-// Writes how a run of a table came out, and its state where a thread was started.
-fn write_desk(rt: &impl Print, table: &[u8], d: Desk) -> bool {
-    let ran = d.ran;
-    if !write_answer(rt, ran) {
-        return false;
-    }
-    let x = extent(ran);
-    if x.threads == 0 {
-        return true;
-    }
-    write_state(rt, table, d, x)
-}
-
-// Takes an input apart, runs its table under its schedule and writes the answer; whether that could be written.
-fn answer(rt: &impl Print, s: &[u8]) -> bool {
-    let lent = number_at(s, 0);
-    let length = number_at(s, 1) + 256 * number_at(s, 2);
-    let from = least(HEAD, s.len());
-    let to = from + least(length, s.len() - from);
-    let end = to + least(MOST_SCHEDULE, s.len() - to);
-    let table = &s[from..to];
-    let d = run_fresh(table, &s[to..end], lent);
-    write_desk(rt, table, d)
-}
-
-// Answers standard input, or says what cannot be read or written.
+// Answers standard input, or says what cannot be read or written; the exit status is 0 all the same.
 fn main(rt: HostRuntime) {
     let mut buf = [0u8; READ_LIMIT];
-    let input = read_input(rt.stdin(), &mut buf);
-    if input.failed {
-        let _ = rt.eprintln("desk: standard input cannot be read");
-        return;
-    }
-    let n = input.size;
-    if !answer(&rt, &buf[..n]) {
-        let _ = rt.eprintln("desk: standard output cannot be written");
+    if let Err(e) = answer_input(rt.stdin(), &mut buf, |s| answer(&rt, s)) {
+        let _ = eprintln!(rt; "desk: {e}");
     }
 }

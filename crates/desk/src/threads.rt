@@ -1,150 +1,97 @@
 // What a run leaves of its threads: where each one stands, which locks it holds and which one it waits for.
 ghost use Rattle.std.specs.Prelude.{◌≡◌};
+ghost use Rattle.table.specs.Laws.Sections.{Held};
 ghost use Rattle.desk.specs.Holds.{held_by};
 
-use crate::bytes::{least, number_at};
-use crate::places::routine_at;
-use crate::text::{write_at, write_ended, write_three, write_two};
-use runner::Desk;
-use steps::limits::{FREE, MOST_FRAMES, MOST_LOCKS, MOST_THREADS};
-use steps::thread::{Thread, lock_of};
-use table::limits::{LOCK, MOST_NAMES};
-use table::scope::{size, wide};
+use links::link;
+use std::io;
+use steps::limits::{MOST_FRAMES, MOST_LOCKS};
+use steps::thread::Thread;
+use table::limits::{LOCK, MOST_BYTES, MOST_NAMES, MOST_ROUTINES};
+use table::sections::Sections;
 
 // How many times a thread holds the lock l.
-fn held(t: Thread, l: u8) -> u64
-    ensures { result ≡ held_by t l }
+fn held(t: &Thread, l: u8) -> usize
+    ensures { result ≡ held_by t.now l }
 {
-    let n = least(t.depth, MOST_FRAMES);
-    let mut c: u64 = 0;
-    let mut d: usize = 0;
-    while d < n {
-        if t.kinds[d] == l {
-            c += 1;
+    let open = t.depth.min(MOST_FRAMES);
+    t.kinds[..open].iter().filter(|k| **k == l).count()
+}
+
+// Writes the lines of the locks that thread i holds.
+fn write_holds(rt: &impl Print, t: &Thread, i: usize) -> io::Result<()> {
+    for l in 0..MOST_LOCKS as u8 {
+        let times = held(t, l);
+        if times != 0 {
+            println!(rt; "holds {i} {l} {times}")?;
         }
-        d += 1;
     }
-    c
+    Ok(())
 }
 
-// Writes the line of the lock l where thread i, whose record is t, holds it.
-fn write_hold(rt: &impl Print, t: Thread, i: usize, l: u8) -> bool {
-    let c = held(t, l);
-    if c == 0 {
-        true
-    } else {
-        write_three(rt, b"holds", i as u64, wide(l), c)
-    }
+// The threads of a run, the body section of their table, and where each body starts in it.
+#[derive(Clone, Copy)]
+struct Stand<'a> {
+    threads: &'a [Thread],
+    bodies: &'a [u8],
+    heads: &'a [usize],
 }
 
-// Writes the lines of the locks that thread i, whose record is t, holds.
-fn write_holds(rt: &impl Print, t: Thread, i: usize) -> bool {
-    let mut l: u8 = 0;
-    while l < MOST_LOCKS as u8 {
-        if !write_hold(rt, t, i, l) {
-            return false;
+impl Stand<'_> {
+    // The routine whose body the item at `at` stands in.
+    fn routine_at(&self, at: usize) -> usize {
+        self.heads.iter().rposition(|h| *h <= at).unwrap_or(0)
+    }
+
+    // The lock that a thread's next item takes, if that is a LOCK.
+    fn wanted(&self, t: &Thread) -> Option<u8> {
+        if t.ended || MOST_FRAMES < t.depth {
+            return None;
         }
-        l += 1;
+        match self.bodies.get(t.at..)? {
+            [LOCK, x, ..] if usize::from(*x) < MOST_NAMES => Some(t.lock_of(usize::from(*x))),
+            _ => None,
+        }
     }
-    true
-}
 
-// The lock that a thread's next item takes, or FREE where that is no LOCK.
-fn wanted(s: &[u8], t: Thread) -> u8 {
-    let at = t.at;
-    if t.ended {
-        return FREE;
+    // Whether one of the threads that has not ended, and not thread i, holds the lock l.
+    fn held_elsewhere(&self, i: usize, l: u8) -> bool {
+        self.threads
+            .iter()
+            .enumerate()
+            .any(|(j, t)| j != i && !t.ended && held(t, l) != 0)
     }
-    if s.len() <= at {
-        return FREE;
-    }
-    if s[at] != LOCK {
-        return FREE;
-    }
-    let x = number_at(s, at + 1);
-    if MOST_NAMES <= x {
-        return FREE;
-    }
-    if MOST_FRAMES < t.depth {
-        return FREE;
-    }
-    lock_of(t, x)
-}
 
-// Whether a thread that has not ended holds the lock l.
-fn holds(t: Thread, l: u8) -> bool {
-    if t.ended {
-        return false;
-    }
-    held(t, l) != 0
-}
-
-// Whether one of the first n threads of a desk, and not thread i, holds the lock l.
-fn held_elsewhere(d: Desk, n: usize, i: usize, l: u8) -> bool {
-    let most = least(n, MOST_THREADS);
-    let mut j: usize = 0;
-    while j < most {
-        let u = d.records[j];
-        if holds(u, l) {
-            if j != i {
-                return true;
+    // Writes the lines of thread i: of one that has ended that alone.
+    fn write_thread(&self, rt: &impl Print, i: usize, t: &Thread) -> io::Result<()> {
+        if t.ended {
+            return println!(rt; "thread {i} ended");
+        }
+        println!(rt; "thread {i} at {} {}", self.routine_at(t.at), t.at)?;
+        write_holds(rt, t, i)?;
+        match self.wanted(t) {
+            Some(l) if usize::from(l) < MOST_LOCKS && self.held_elsewhere(i, l) => {
+                println!(rt; "waits {i} {l}")
             }
+            _ => Ok(()),
         }
-        j += 1;
-    }
-    false
-}
-
-// Writes the line of the lock that thread i of the n of a desk waits for, if it wants l and another one holds l.
-fn write_wait(rt: &impl Print, d: Desk, n: usize, i: usize, l: u8) -> bool {
-    if MOST_LOCKS <= size(l) {
-        return true;
-    }
-    if held_elsewhere(d, n, i, l) {
-        write_two(rt, b"waits", i as u64, wide(l))
-    } else {
-        true
     }
 }
 
-// Writes where thread i, whose record is t, stands.
-fn write_place(rt: &impl Print, ks: &[u8], s: &[u8], t: Thread, i: usize) -> bool {
-    let at = t.at;
-    write_at(rt, i as u64, routine_at(ks, s, at) as u64, at as u64)
-}
-
-// Writes the lines of thread i of the n of a desk, whose record is t: of a thread that has ended that alone.
-fn write_thread(
-    rt: &impl Print,
-    ks: &[u8],
-    s: &[u8],
-    d: Desk,
-    n: usize,
-    i: usize,
-    t: Thread,
-) -> bool {
-    if t.ended {
-        return write_ended(rt, i as u64);
+// Writes the lines of the threads.
+pub fn write_threads(rt: &impl Print, t: &Sections<'_>, threads: &[Thread]) -> io::Result<()>
+    requires { Held t.now.counts.now t.now.bodies.now }
+{
+    let mut heads = [0; MOST_ROUTINES];
+    let mut links = [0; MOST_BYTES];
+    link(t, &mut heads, &mut links);
+    let stand = Stand {
+        threads,
+        bodies: t.bodies,
+        heads: &heads[..t.counts.len()],
+    };
+    for (i, thread) in threads.iter().enumerate() {
+        stand.write_thread(rt, i, thread)?;
     }
-    if !write_place(rt, ks, s, t, i) {
-        return false;
-    }
-    if !write_holds(rt, t, i) {
-        return false;
-    }
-    write_wait(rt, d, n, i, wanted(s, t))
-}
-
-// Writes the lines of the first n threads of a desk; ks has the routines' parameter counts, s is the body section.
-pub fn write_threads(rt: &impl Print, ks: &[u8], s: &[u8], d: Desk, n: usize) -> bool {
-    let most = least(n, MOST_THREADS);
-    let mut i: usize = 0;
-    while i < most {
-        let t = d.records[i];
-        if !write_thread(rt, ks, s, d, n, i, t) {
-            return false;
-        }
-        i += 1;
-    }
-    true
+    Ok(())
 }

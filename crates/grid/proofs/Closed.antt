@@ -10,9 +10,9 @@ use Rattle.rules.specs.Number.{number, label_of, labels}
 use Rattle.rules.specs.Model.{Kept}
 use Rattle.rules.specs.Derived.{Closed, given, follows}
 use Rattle.rules.proofs.Laws.Number.{label_of_number, number_lt}
-use Rattle.grid.specs.Rows.{Has, Edge, SomeRow, Walk, Same, Bits}
+use Rattle.grid.specs.Rows.{Has, Edge, Walk, Same}
 use Rattle.grid.specs.Grid.{cell, Pair, Small, AllKept, Closure}
-use Rattle.grid.specs.Planes.{Labelled, RowLabels, Sole, PlanesOf, Within, Plane, MixOf, SeveralOf}
+use Rattle.grid.specs.Planes.{Labelled, Listed, PlanesOf, Plane, MixOf, SeveralOf}
 use Rattle.grid.specs.Planes.{Grown, InPlane, InWalks, InPlanes, Follows}
 use Rattle.grid.specs.Laws.Walks.{Of, Any, Mix, Mixed, Says, walk_back, star_back, first, says, said, walked}
 use Rattle.grid.proofs.Laws.Masks.{has_zero}
@@ -138,18 +138,12 @@ module _ (g p : List (List ℕ)) (planes : PlanesOf g p) where
       (λ w. inr (inr (w.0, mixes.from b a (mixed_from a b w.1)))))
       (grown_then named last)
 
--- the labels of all pairs have each plane that relates names
-pub within :
-    (g p : List (List ℕ)) (u : List ℕ) (c : ℕ) → PlanesOf g p → Same (Edge u) (RowLabels g) → Bits c (SomeRow u)
-    → Within p c
-within g p u c planes rows bits l h b a e = bits.from l (a, rows.from a l (b, (planes l h).to b a e))
-
 -- c has the labels of all pairs, and l is the one label, own or a fork
-module _ (g : List (List ℕ)) (u : List ℕ) (c l : ℕ) (rows : Same (Edge u) (RowLabels g))
-    (bits : Bits c (SomeRow u)) (named : l < number unknown) (sole : Sole c l) where
+module _ (g : List (List ℕ)) (u : List ℕ) (c l : ℕ) (listed : Listed g u c)
+    (named : l < number unknown) (sole : (j : ℕ) → Has c j → j ≡ l) where
   -- each pair is labelled l, so that no two of them mix
   labelled : (m : Label) (a b : ℕ) → Pair g a b m → m ≡ label_of l
-  labelled m a b w = w.2 ∙ ap label_of (sole named w.0 (bits.from w.0 (a, rows.from a w.0 (b, w.3))))
+  labelled m a b w = w.2 ∙ ap label_of (sole w.0 (listed a b w.0 w.3).1)
 
   no_mix : (a b : ℕ) → Mix (Pair g) a b → ⊥
   no_mix a b (inl w) = not_several l named (sym (labelled several a b w))
@@ -160,7 +154,7 @@ module _ (g : List (List ℕ)) (u : List ℕ) (c l : ℕ) (rows : Same (Edge u) 
   only_walks : (a b k : ℕ) → Follows g a b k → InWalks (Labelled g l) l a b k
   only_walks a b k (inl w) =
       let f = first w.1.1 in
-      let e : k ≡ l = sole named k (bits.from k (f.0, rows.from f.0 k (b, f.1))) in
+      let e : k ≡ l = sole k (listed f.0 b k f.1).1 in
       (e, rw e at w.1)
   only_walks a b k (inr w) = absurd (no_mix _ _ w.1.3)
 
@@ -173,8 +167,8 @@ module _ (g : List (List ℕ)) (u : List ℕ) (c l : ℕ) (rows : Same (Edge u) 
 
 -- nothing follows where there is no pair
 pub none_grown :
-    (g : List (List ℕ)) (u : List ℕ) → Same (Edge u) (RowLabels g) → Bits 0 (SomeRow u) → Grown g (Follows g) g
-none_grown g u rows bits =
-    one_grown g u 0 0 rows bits (omega arith) (λ h j e. absurd (has_zero j e)) g
+    (g : List (List ℕ)) (u : List ℕ) → Listed g u 0 → Grown g (Follows g) g
+none_grown g u listed =
+    one_grown g u 0 0 listed (omega arith) (λ j e. absurd (has_zero j e)) g
     (grown_none
-    (λ a b k w. let f = first w.1.1 in has_zero 0 (bits.from 0 (f.0, rows.from f.0 0 (b, f.1)))))
+    (λ a b k w. let f = first w.1.1 in has_zero 0 (listed f.0 b 0 f.1).1))

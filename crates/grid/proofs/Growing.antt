@@ -11,7 +11,7 @@ use Rattle.rules.specs.Number.{labels}
 use Rattle.grid.specs.Rows.{Has, Rel, Edge, Or, Less, Apart, Walk, Same}
 use Rattle.grid.specs.Grid.{cell, Small}
 use Rattle.grid.specs.Planes.{PlaneIn, Grown, InPlane, InWalks, InPlanes}
-use Rattle.grid.proofs.Laws.Masks.{has_below, below_bits}
+use Rattle.grid.proofs.Laws.Masks.{has_below, bits_below}
 use Rattle.grid.specs.Laws.Walks.{first}
 use Rattle.grid.proofs.Relations.{same_walk, below_split}
 
@@ -73,13 +73,13 @@ walks_grown g t r w v d l inside walks apart less grown =
 -- a row with a label number added has small masks, and so has the grid with that row
 pub small_put :
     (g : List (List ℕ)) (i l : ℕ) (t : List ℕ) (q : ℕ → Type 0) → i < length g → l < labels → Small g
-    → ((b : ℕ) → get_or t b 0 < 65536) → Same (Edge t) (Or (Edge (get_or g i [])) (λ b k. (k ≡ l) × q b))
+    → Same (Edge t) (Or (Edge (get_or g i [])) (λ b k. (k ≡ l) × q b))
     → Small (set g i t)
-small_put g i l t q h m small fits s x y =
+small_put g i l t q h m small s x y =
     elim (ℕ_discrete x i) [
       | yes e ↦
           rw (e, get_or-set_same g i t [] h)
-          (below_bits labels (get_or t y 0) (fits y)
+          (bits_below labels (get_or t y 0)
           (λ k p.
           ⊎_elim (λ u. has_below (cell g i y) labels k (small i y) u) (λ u. let z = u.0 in omega arith) (s.to y k p)))
       | no e ↦ rw (get_or-set_other g i x t [] e) (small x y)

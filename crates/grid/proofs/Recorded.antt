@@ -13,7 +13,7 @@ use Rattle.rules.specs.Number.{number, label_of, labels}
 use Rattle.rules.specs.Model.{Kept}
 use Rattle.grid.specs.Rows.{Has, Bits}
 use Rattle.grid.specs.Grid.{cell, In, Pair, Small, KeptIn, Empty, Added}
-use Rattle.grid.proofs.Laws.Masks.{has_below, below_bits, bits_self, bits_or}
+use Rattle.grid.proofs.Laws.Masks.{has_below, bits_below, bits_self, bits_or}
 use Rattle.grid.proofs.Shapes.{zero_cell, zero_pair}
 use Rattle.grid.proofs.Laws.Labels.{in_number, in_has}
 
@@ -48,8 +48,8 @@ module _ (g : List (List ℕ)) (a b k : ℕ) (ha : a < length g) (hb : b < lengt
   put_bits = rw cell_here (bits_or (bits_self (cell g a b)) (bits_self k))
 
   -- the pairs of the labels of m, where k has those of m that are kept
-  pub added : (m : ℕ) → k < 65536 → m < 2 ^ labels → Small g → Bits k (KeptIn a b m) → Added g a b (In m) (put g a b k)
-  added m hk hm small bits = record {
+  pub added : (m : ℕ) → m < 2 ^ labels → Small g → Bits k (KeptIn a b m) → Added g a b (In m) (put g a b k)
+  added m hm small bits = record {
     small = λ x y.
         ⊎_elim
         (λ e. rw (e.0, e.1, cell_here) (or_lt labels (cell g a b) k (small a b) low))
@@ -62,7 +62,7 @@ module _ (g : List (List ℕ)) (a b k : ℕ) (ha : a < length g) (hb : b < lengt
   }
     where
       low : k < 2 ^ labels
-      low = below_bits labels k hk (λ j h. has_below m labels j hm (bits.to j h).0)
+      low = bits_below labels k (λ j h. has_below m labels j hm (bits.to j h).0)
 
       stays : (x y j : ℕ) → Has (cell g x y) j → Has (cell (put g a b k) x y) j
       stays x y j h =

@@ -5,12 +5,6 @@ use Prim.Native.Nat.{ℕ, zero, suc, ◌<◌}
 use native.Mathlib.Omega.{arith}
 use native.Mathlib.Decide.{dec_lt}
 use lib.ListN.{get_or, length, replicate, get_or-eq_default}
-use mir.Val.{Val}
-use mir.Syntax.{w16}
-use denote.Array.{each}
-use denote.Shadow.{shadow}
-use denote.Plain.{UInt}
-use borrow.Author.Rules.{elem_Fits}
 use Rattle.grid.specs.Rows.{Has, Edge}
 use Rattle.grid.specs.Grid.{cell}
 use Rattle.grid.proofs.Laws.Masks.{has_zero, has_below}
@@ -24,8 +18,8 @@ edge_row r n i j l e =
     ]
 
 -- a bit of a 16-bit row is one of sixteen
-pub edge_column : (r : List ℕ) (us : List Val) → shadow (each ℕ (UInt w16).own_val r us) → (i j : ℕ) → Edge r i j → j < 16
-edge_column r us h i j e = has_below (get_or r i 0) 16 j (elem_Fits w16 w16 r us i h tt).fits e
+pub edge_column : (r : List ℕ) → ((i : ℕ) → get_or r i 0 < 65536) → (i j : ℕ) → Edge r i j → j < 16
+edge_column r fits i j e = has_below (get_or r i 0) 16 j (fits i) e
 
 -- a pair of a grid has a row of it
 pub cell_row : (g : List (List ℕ)) (n a b l : ℕ) → length g ≡ n → Has (cell g a b) l → a < n

@@ -1,5 +1,5 @@
 -- Grids: sixteen rows of sixteen label masks, and what the functions on them leave.
-use Rattle.std.specs.Prelude.{◌≡◌, ◌≢◌, ◌⊎◌, List, [], ℕ, ◌^◌, ◌<◌, ◌≤◌, get_or, length}
+use Rattle.std.specs.Prelude.{◌≡◌, ◌≢◌, ◌⊎◌, List, [], ℕ, ◌^◌, ◌<◌, ◌≤◌, get_or, length, Option, Some, None}
 use Rattle.table.specs.Constants.{most_names}
 use Rattle.rules.specs.Label.{Label, several}
 use Rattle.rules.specs.Number.{number, label_of, labels}
@@ -66,3 +66,8 @@ pub record LowestRing (g : List (List ℕ)) (x : ℕ) : Type 0 where
   pub within : x ≤ most_names
   pub ring : x < most_names → Pair g x x several
   pub lowest : (y : ℕ) → Pair g y y several → x ≤ y
+
+-- the lowest name with a ring, if there is one
+abbrev pub RingName : List (List ℕ) → Option ℕ → Type 0
+RingName g None = (y : ℕ) → Pair g y y several → ⊥
+RingName g (Some x) = (x < most_names) × Pair g x x several × ((y : ℕ) → Pair g y y several → x ≤ y)

@@ -1,5 +1,5 @@
 -- A grid as one relation a label, from the second name of a pair to the first, and the mixes that give several.
-use Rattle.std.specs.Prelude.{◌≡◌, ◌⊎◌, List, [], ℕ, ◌<◌, get_or}
+use Rattle.std.specs.Prelude.{◌≡◌, ◌⊎◌, List, [], ℕ, ◌<◌, get_or, Option, IfSome}
 use Rattle.rules.specs.Label.{unknown, several, combine}
 use Rattle.rules.specs.Number.{number, label_of, labels}
 use Rattle.grid.specs.Rows.{Has, Rel, Edge, Or, Then, Star, Apart, Walk, Same}
@@ -14,9 +14,13 @@ Labelled g l b a = Has (cell g a b) l
 abbrev pub RowLabels : List (List ℕ) → Rel
 RowLabels g a l = (b : ℕ) × Has (cell g a b) l
 
--- the mask c has label number l alone, where that is own or a fork
-abbrev pub Sole : ℕ → ℕ → Type 0
-Sole c l = l < number unknown → (j : ℕ) → Has c j → j ≡ l
+-- each label of a pair is in the row of its first name, and in the mask of all
+abbrev pub Listed : List (List ℕ) → List ℕ → ℕ → Type 0
+Listed g u c = (a b l : ℕ) → Labelled g l b a → Edge u a l × Has c l
+
+-- the label number, if there is one, is that of own or a fork, and the mask c has it alone
+abbrev pub Sole : ℕ → Option ℕ → Type 0
+Sole c o = IfSome o (λ l. (l < number unknown) × ((j : ℕ) → Has c j → j ≡ l))
 
 -- each pair that r relates has label number l
 abbrev pub PlaneIn : List (List ℕ) → List ℕ → ℕ → Type 0

@@ -1,26 +1,23 @@
 // A grid as one relation a label, from the second name of a pair to the first: the planes, and their mixes.
-ghost use Rattle.std.specs.Prelude.{◌<◌};
+ghost use Rattle.std.specs.Prelude.{◌≡◌, ◌<◌};
 ghost use Rattle.rules.specs.Number.{labels};
 ghost use Rattle.grid.specs.Rows.{Has, Edge, SomeRow, Same, Bits};
 ghost use Rattle.grid.specs.Grid.{Square};
-ghost use Rattle.grid.specs.Planes.{Labelled, RowLabels, Sole, PlanesOf, Within, Chosen, Clashing, MixOf};
+ghost use Rattle.grid.specs.Planes.{Labelled, RowLabels, Sole, Listed, PlanesOf, Within, Chosen, Clashing, MixOf, SeveralOf};
 
+use crate::masks::{has, one};
 use crate::rows::Rows;
 use crate::{Grid, rows};
 use rules::{LABELS, SEVERAL, UNKNOWN};
 use table::limits::MOST_NAMES;
 
-// Plane l: the pairs with label l, each from its second name to its first.
-pub type Planes = [[u16; MOST_NAMES]; LABELS];
-
 // The labels of the pairs from each name.
-pub fn row_labels(g: &Grid) -> Rows
+fn row_labels(g: &Grid) -> Rows
     requires { Square g.now }
     ensures { Same (Edge result) (RowLabels g.now) }
 {
-    let mut next = [0u16; MOST_NAMES];
-    for i in 0..MOST_NAMES {
-        let row = g[i];
+    let mut next = [0; MOST_NAMES];
+    for (i, row) in g.iter().enumerate() {
         let m = rows::any(row);
         if m != 0 {
             next[i] = m;
@@ -29,65 +26,70 @@ pub fn row_labels(g: &Grid) -> Rows
     next
 }
 
-// The one label of a mask, if it is own or a fork; else UNKNOWN.
-pub fn sole(c: u16) -> usize
+// A grid beside the labels of its pairs: those of the pairs from each name, and those of all.
+#[derive(Clone, Copy)]
+pub struct Labels<'a> {
+    pub grid: &'a Grid,
+    pub rows: Rows,
+    pub some: u16,
+    pub ghost listed: { Listed grid.now rows some },
+}
+
+impl<'a> Labels<'a> {
+    // The labels of a grid.
+    pub fn of(grid: &'a Grid) -> Labels<'a>
+        requires { Square grid.now }
+        ensures same_grid { result.grid.now ≡ grid.now }
+        ensures rows { Same (Edge result.rows) (RowLabels grid.now) }
+        ensures some { Bits result.some (SomeRow result.rows) }
+    {
+        let rows = row_labels(grid);
+        let some = rows::any(&rows);
+        Labels { grid, rows, some }
+    }
+
+    // The pairs that label l has.
+    pub fn plane(&self, l: usize) -> Rows
+        requires { l < labels }
+        ensures { Same (Edge result) (Labelled self.now.grid.now l) }
+    {
+        let mut next = [0; MOST_NAMES];
+        for (i, row) in self.grid.iter().enumerate() {
+            if has(self.rows[i], l) {
+                let t = rows::spread(next, *row, l, one(i));
+                next = t;
+            }
+        }
+        next
+    }
+
+    // The pairs of each label.
+    pub fn planes(&self) -> Planes
+        ensures { PlanesOf self.now.grid.now result.planes }
+    {
+        let mut next = Planes {
+            planes: [[0; MOST_NAMES]; LABELS],
+            some: self.some,
+        };
+        for (l, pairs) in next.planes.iter_mut().enumerate() {
+            if has(self.some, l) {
+                *pairs = self.plane(l);
+            }
+        }
+        next
+    }
+}
+
+// The one label of a mask, if it is own or a fork.
+pub fn sole(c: u16) -> Option<usize>
     ensures { Sole c result }
 {
-    let n = u16::trailing_zeros(c);
-    let l = n as usize;
-    if l < UNKNOWN {
-        if c == 1u16 << (l as u16) {
-            return l;
-        }
+    let l = c.trailing_zeros() as usize;
+    if l < UNKNOWN && c == one(l) {
+        Some(l)
+    } else {
+        None
     }
-    UNKNOWN
-}
-
-// The pairs that label l has; u has the labels of the pairs from each name.
-pub fn plane(g: &Grid, u: Rows, l: usize) -> Rows
-    requires { (l < labels) × Same (Edge u) (RowLabels g.now) }
-    ensures { Same (Edge result) (Labelled g.now l) }
-{
-    let mut next = [0u16; MOST_NAMES];
-    for i in 0..MOST_NAMES {
-        let m = u[i];
-        if (m >> (l as u16)) % 2 == 1 {
-            let row = g[i];
-            let t = rows::spread(next, row, l, 1u16 << (i as u16));
-            next = t;
-        }
-    }
-    next
-}
-
-// The pairs of each label; u has the labels of the pairs from each name, and c those of all.
-pub fn planes(g: &Grid, u: Rows, c: u16) -> Planes
-    requires { Same (Edge u) (RowLabels g.now) × Bits c (SomeRow u) }
-    ensures { PlanesOf g.now result }
-{
-    let mut next = [[0u16; MOST_NAMES]; LABELS];
-    for l in 0..LABELS {
-        if (c >> (l as u16)) % 2 == 1 {
-            let t = plane(g, u, l);
-            next[l] = t;
-        }
-    }
-    next
-}
-
-// The pairs of the labels in the mask c.
-pub fn chosen(p: &Planes, c: u16) -> Rows
-    ensures { Same (Edge result) (Chosen p.now c) }
-{
-    let mut next = [0u16; MOST_NAMES];
-    for l in 0..LABELS {
-        if (c >> (l as u16)) % 2 == 1 {
-            let q = p[l];
-            let t = rows::union(next, q);
-            next = t;
-        }
-    }
-    next
 }
 
 // The labels of c that combine to several with l after them: all, but for l itself where that combines to l.
@@ -96,24 +98,58 @@ pub fn clashing(l: usize, c: u16) -> u16
     ensures { Bits result (λ m. Has c m × Clashing l m) }
 {
     if rules::combine(l, l) == SEVERAL as u8 {
-        return c;
+        c
+    } else {
+        c & !one(l)
     }
-    c ^ (((c >> (l as u16)) % 2) << (l as u16))
 }
 
-// The pairs labelled several, and those that follow from two with that label; c has the planes that are not empty.
-pub fn mixed(p: &Planes, c: u16) -> Rows
-    requires { Within p.now c }
-    ensures { Same (Edge result) (MixOf p.now) }
-{
-    let mut next = p[SEVERAL];
-    for l in 0..LABELS {
-        if (c >> (l as u16)) % 2 == 1 {
-            let q = p[l];
-            let o = chosen(p, clashing(l, c));
-            let t = rows::product(next, q, o);
-            next = t;
+// Plane l: the pairs with label l, each from its second name to its first; some has the planes that are not empty.
+#[derive(Drop)]
+pub struct Planes {
+    pub planes: [Rows; LABELS],
+    pub some: u16,
+    pub ghost within: { Within planes some },
+}
+
+impl Planes {
+    // The pairs of the labels in the mask c.
+    fn chosen(&self, c: u16) -> Rows
+        ensures { Same (Edge result) (Chosen self.now.planes c) }
+    {
+        let mut next = [0; MOST_NAMES];
+        for (l, pairs) in self.planes.iter().enumerate() {
+            if has(c, l) {
+                rows::join(&mut next, pairs);
+            }
         }
+        next
     }
-    next
+
+    // The pairs labelled several, and those that follow from two with that label.
+    fn mixed(&self) -> Rows
+        ensures { Same (Edge result) (MixOf self.now.planes) }
+    {
+        let mut next = self.planes[SEVERAL];
+        for (l, pairs) in self.planes.iter().enumerate() {
+            if has(self.some, l) {
+                let t = rows::product(next, *pairs, self.chosen(clashing(l, self.some)));
+                next = t;
+            }
+        }
+        next
+    }
+
+    // The mixes, with walks of any labels before and after them.
+    pub fn several(&self) -> Rows
+        ensures { Same (Edge result) (SeveralOf self.now.planes) }
+    {
+        let m = self.mixed();
+        if rows::any(&m) == 0 {
+            return m;
+        }
+        let walks = rows::close_rows(self.chosen(self.some));
+        let before = rows::product(m, walks, m);
+        rows::product(before, before, walks)
+    }
 }

@@ -7,7 +7,7 @@ use native.Mathlib.Omega.{arith}
 use lib.Dec.{eqb}
 use lib.ListN.{length, get_or, set}
 use Rattle.table.specs.Constants.{END, LOCK, OTHER, CALL, MIRROR, code}
-use Rattle.links.specs.declared.Walk.{Walk}
+use Rattle.links.specs.declared.walk.Walk.{Walk}
 use Rattle.links.specs.Walks.{walk, binds?, past_by, moved_by}
 use Rattle.links.specs.Walks.{walk_after, links_after}
 use Rattle.links.specs.Walks.{Path, done, step, Ends, going, CanLink, Linked, Walks}
@@ -57,7 +57,7 @@ first_of ks s w v l m (step v' u m' n g' can e f p) ends g = (can, rw (sym e, sy
 -- a path's first place is inside
 pub inside_of : (ks s : List ℕ) (w v : Walk) (l m : List ℕ) → Path ks s w l v m → Ends s w → v.at < length s
 inside_of ks s w v l m (done v' m' e f) ends = rw e ends.0
-inside_of ks s w v l m (step v' u m' n g can e f p) ends = can.passable.inside
+inside_of ks s w v l m (step v' u m' n g can e f p) ends = can.passable.here
 
 -- a path whose first place is the END is over
 pub over_of : (ks s : List ℕ) (w v : Walk) (l m : List ℕ) → Path ks s w l v m → Ends s w → going s v ≡ false

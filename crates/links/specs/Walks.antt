@@ -1,8 +1,9 @@
 -- The walk that links a body: place by place, and the paths that it takes.
 use Rattle.std.specs.Prelude.{◌≡◌, Bool, true, false, cond, not, List, ℕ, ◌+◌, ◌-◌, ◌<◌, ◌≤◌, ◌^◌, eqb}
 use Rattle.std.specs.Prelude.{length, get_or, set, replicate}
-use Rattle.table.specs.Constants.{END, NEW, LOCK, OTHER, CALL, MIRROR, code, most_open, most_bytes, most_params}
-use Rattle.links.specs.declared.Walk.{Walk}
+use Rattle.table.specs.Constants.{END, NEW, OTHER, CALL, MIRROR, code, most_open, most_bytes, most_params}
+pub use Rattle.table.specs.Laws.Passing.{past_by, Passable}
+use Rattle.links.specs.declared.walk.Walk.{Walk}
 
 -- a place, field by field
 abbrev pub walk : ℕ → ℕ → ℕ → List ℕ → Walk
@@ -11,17 +12,6 @@ walk at top name opened = record { at = at; top = top; name = name; opened = ope
 -- whether an item with code b makes a name
 abbrev pub binds? : ℕ → Bool
 binds? b = cond (eqb b (code NEW)) true (eqb b (code MIRROR))
-
--- the offset past an item with code b
-abbrev pub past_by : List ℕ → List ℕ → ℕ → ℕ → ℕ
-past_by ks s at b =
-    cond (eqb b (code LOCK)) (at + 2)
-    (cond (eqb b (code MIRROR)) (at + 2)
-    (cond (eqb b (code CALL)) (at + 2 + get_or ks (get_or s (at + 1) 0) 0) (at + 1)))
-
--- the offset past the item
-abbrev pub past_at : List ℕ → List ℕ → ℕ → ℕ
-past_at ks s at = past_by ks s at (get_or s at 0)
 
 -- the offset whose link the item writes
 abbrev pub slot_by : Walk → ℕ → ℕ
@@ -65,13 +55,6 @@ going s w = going_by w (get_or s w.at 0)
 -- the start of a body
 abbrev pub begun : ℕ → ℕ → Walk
 begun from own = walk from 0 (own + 1) (replicate (most_open + 1) 0)
-
--- the item can be passed
-pub record Passable (ks s : List ℕ) (at : ℕ) : Type 0 where
-  pub inside : at < length s
-  pub low : at + 2 < 2 ^ 64
-  pub calls : get_or s at 0 ≡ code CALL
-      → (at + 1 < length s) × (get_or s (at + 1) 0 < length ks) × (at + 2 + get_or ks (get_or s (at + 1) 0) 0 < 2 ^ 64)
 
 abbrev pub Levelled : Walk → Type 0
 Levelled w = w.top ≤ most_open

@@ -1,26 +1,18 @@
 -- Lines: how long they are, and when a cell has one.
-use mathlib.Core.Path.{◌≡◌, refl, sym, ap, ◌∙◌}
-use mathlib.Core.Bool.{cond}
-use mathlib.Core.List.{List, [], ◌∷◌}
-use Prim.Native.Nat.{ℕ, ◌+◌, ◌*◌, ◌<◌, ◌≤◌}
-use native.Mathlib.Omega.{arith}
-use native.Mathlib.Decide.{dec_lt}
-use lib.Dec.{eqb}
-use lib.ListN.{length, length-append, get_or}
-use borrow.Author.Tests.{eq-eqb, ne_eqb}
-use Rattle.table.specs.Constants.{row_bytes, row_names}
-use Rattle.append.specs.Appends.{Appends}
-use Rattle.append.specs.Laws.Appending.{equal_text}
-use Rattle.listing.specs.Text.{digits, decimal, numbers, line, pair_word, share_word, ring_word, cell_line}
-use Rattle.listing.proofs.DecimalLaws.{one_digit, two_digits, three_digits}
+use Rattle.std.specs.Prelude.{◌≡◌, refl, List, [], ◌∷◌, ◌++◌, ℕ, zero, suc, ◌+◌, ◌^◌, ◌<◌, ◌≤◌, length, get_or, take}
+use Rattle.std.proofs.Common.{sym, ap, ◌∙◌, arith, add-one, append_assoc, append-nil, length-append}
+use Rattle.std.proofs.Math.Decide.{dec_lt}
+use Rattle.listing.specs.Text.{digits, decimal, space, line_end, numbers, line, pair_word, share_word, ring_word}
+use Rattle.listing.proofs.DecimalLaws.{few_digits, one_digit, two_digits, three_digits}
 
 -- each number takes a space and its digits
 numbers_more : (n : ℕ) (ns : List ℕ) → length (numbers (n ∷ ns)) ≡ 1 + (length (decimal n) + length (numbers ns))
 numbers_more n ns = omega (arith, length-append (decimal n) (numbers ns))
 
-pub line_short : (w : List ℕ) (n : ℕ) → n < 100 → length (line w (n ∷ [])) ≤ length w + 4
-line_short w n h =
-    omega (arith, length-append w (numbers (n ∷ [])), numbers_more n [], two_digits n h)
+pub line_short : (k : ℕ) (w : List ℕ) (n : ℕ) → 0 < k → n < 10 ^ k → n < 2 ^ 64
+    → length (line w (n ∷ [])) ≤ length w + (k + 2)
+line_short k w n some h g =
+    omega (arith, length-append w (numbers (n ∷ [])), numbers_more n [], few_digits k n some h g)
 
 pub ring_short : (r x : ℕ) → r < 100 → x < 100 → length (line ring_word (r ∷ x ∷ [])) ≤ 11
 ring_short r x h g = omega (
@@ -72,19 +64,27 @@ pair_short r a b v hr ha hb hv = omega (
   three_digits v hv,
 )
 
--- a cell that is 0 has no line
-pub no_line : (model : List ℕ) (r a b : ℕ) {at p : ℕ} {l x : List ℕ}
-    → get_or model (row_bytes * r + (row_names * a + b)) 0 ≡ 0 → Appends at [] l x p
-    → Appends at (cell_line model r a b) l x p
-no_line model r a b e f =
-    let v = get_or model (row_bytes * r + (row_names * a + b)) 0 in
-    equal_text (ap (λ t. cond t [] (line pair_word (r ∷ a ∷ b ∷ v ∷ []))) (eq-eqb v 0 e)) f
+-- the numbers of a line without its end: each after a space
+abbrev pub spaced : List ℕ → List ℕ
+spaced [] = []
+spaced (n ∷ ns) = space ∷ decimal n ++ spaced ns
 
--- another has its line
-pub a_line : (model : List ℕ) (r a b v : ℕ) {at p : ℕ} {l x : List ℕ}
-    → v ≡ get_or model (row_bytes * r + (row_names * a + b)) 0 → (v ≡ 0 → ⊥)
-    → Appends at (line pair_word (r ∷ a ∷ b ∷ v ∷ [])) l x p → Appends at (cell_line model r a b) l x p
-a_line model r a b v e n f =
-    let z = ap (λ t. cond t [] (line pair_word (r ∷ a ∷ b ∷ v ∷ []))) (ne_eqb v 0 n) in
-    let w = ap (λ u. cond (eqb u 0) [] (line pair_word (r ∷ a ∷ b ∷ u ∷ []))) (sym e) in
-    equal_text (w ∙ z) f
+-- all of them, and the line's end
+pub numbers_spaced : (ns : List ℕ) → numbers ns ≡ spaced ns ++ (line_end ∷ [])
+numbers_spaced [] = refl
+numbers_spaced (n ∷ ns) =
+    ap (λ (t : List ℕ). space ∷ decimal n ++ t) (numbers_spaced ns)
+    ∙ sym (append_assoc (space ∷ decimal n) (spaced ns) (line_end ∷ []))
+
+-- the first i of them, and one more
+pub spaced_more : (i : ℕ) (ns : List ℕ) → i < length ns
+    → spaced (take (i + 1) ns) ≡ spaced (take i ns) ++ (space ∷ decimal (get_or ns i 0))
+spaced_more i ns h = rw (add-one i) (go i ns h)
+  where
+    go : (i : ℕ) (ns : List ℕ) → i < length ns
+        → spaced (take (suc i) ns) ≡ spaced (take i ns) ++ (space ∷ decimal (get_or ns i 0))
+    go i [] h = absurd (omega arith)
+    go zero (n ∷ ns) h = append-nil (space ∷ decimal n)
+    go (suc i) (n ∷ ns) h =
+        ap (λ (t : List ℕ). space ∷ decimal n ++ t) (go i ns (omega arith))
+        ∙ sym (append_assoc (space ∷ decimal n) (spaced (take i ns)) (space ∷ decimal (get_or ns i 0)))

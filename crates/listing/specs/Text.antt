@@ -1,13 +1,12 @@
 -- The listing of a table: lines of words and decimal numbers, from the answer and the model.
 use Rattle.std.specs.Prelude.{◌≡◌, cond, List, [], ◌∷◌, ◌++◌, ℕ, zero, suc, ◌+◌, ◌*◌, ◌/◌, ◌%◌, eqb, ltb, length, get_or}
-use Rattle.std.specs.Prelude.{take, drop}
+use Rattle.std.specs.Prelude.{take, drop, Ok, Err}
 use Rattle.table.specs.Constants.{most_routines, row_names, row_cells, row_bytes}
-use Rattle.analysis.specs.Answer.{Analysed}
+use Rattle.table.specs.Refusal.{refusal_number}
+use Rattle.analysis.specs.Answer.{Answer, Analysed}
 use Rattle.analysis.specs.declared.Share.{Share}
 use Rattle.analysis.specs.declared.Verdict.{Verdict}
 use Rattle.analysis.specs.declared.Verdict.TheVariants.{Clear, Ring}
-use Rattle.analysis.specs.declared.Answer.{Answer}
-use Rattle.analysis.specs.declared.Answer.TheVariants.{Judged, Refused}
 
 -- the words of a listing, in ASCII: routines, pair, share, clear, ring, refused
 abbrev pub routines_word : List ℕ
@@ -87,8 +86,8 @@ judged_listing n model verdict share =
 
 -- the listing of a table of n routines, from the answer and the model; the number of rounds is not in it
 abbrev pub listing : ℕ → List ℕ → Answer → List ℕ
-listing n model (Judged verdict share m) = judged_listing n model verdict share
-listing n model (Refused e) = line refused_word (e ∷ [])
+listing n model (Ok j) = judged_listing n model j.verdict j.share
+listing n model (Err r) = line refused_word (refusal_number r ∷ [])
 
 -- the buffer after a text was written from its beginning on: as much of the text as there is room for, and then what was
 -- there before

@@ -1,140 +1,99 @@
 // The lines of a listing, appended to a text in a lent buffer.
-ghost use Rattle.std.specs.Prelude.{◌≡◌, [], ◌∷◌, ◌*◌, ◌+◌, ◌<◌, ◌≤◌, length, get_or};
+ghost use Rattle.std.specs.Prelude.{◌≡◌, [], ◌∷◌, ◌*◌, ◌+◌, ◌<◌, ◌≤◌, length, get_or, All};
 ghost use Rattle.table.specs.Constants.{most_routines, row_names};
 ghost use Rattle.analysis.specs.Answer.{Short};
-ghost use Rattle.listing.specs.Text.{cell_line, each, line, pair_word, pair_lines, ring_word, share_line, verdict_line};
+ghost use Rattle.listing.specs.Text.{cell_line, each, line, pair_lines, share_line, verdict_line};
 ghost use Rattle.listing.specs.Laws.Digits.{FewDigits};
-ghost use Rattle.append.specs.Appends.{Appends};
+ghost use Rattle.append.specs.Puts.{Puts};
 
 use crate::text::put_number;
 use analysis::{Share, Verdict};
-use append::put;
+use append::Text;
 use table::limits::{ROW_BYTES, ROW_NAMES};
-use table::scope::size;
 
-// Appends the line of a word and one number.
-pub fn put_line(out: &mut [u8], at: usize, word: &[u8], n: u64) -> usize
-    requires { (at < 100000) × (length word.now < 100) × (n < 100) }
-    ensures appends { Appends at (line word.now (n ∷ [])) out.old out.new result }
-    ensures few { result ≤ at + (length word.now + 4) }
+// Appends the line of a word and its numbers.
+pub fn put_line(text: &mut Text<'_>, word: &[u8], numbers: &[u64])
+    requires room { text.old.at < 100000 }
+    requires short { (length word.now < 100) × (length numbers.now < 10) }
+    requires small { All (λ n. n < 1000) numbers.now }
+    ensures { Puts (line word.now numbers.now) text.old text.new }
 {
-    let a = put(out, at, word);
-    let b = put_number(out, a, n);
-    put(out, b, b"\n")
-}
-
-// Appends the line of a pair.
-fn put_pair(out: &mut [u8], at: usize, r: u64, a: u64, b: u64, v: u64) -> usize
-    requires { (at < 100000) × (r < most_routines) × (a < row_names) × (b < row_names) × (v < 256) }
-    ensures appends { Appends at (line pair_word (r ∷ a ∷ b ∷ v ∷ [])) out.old out.new result }
-    ensures few { result ≤ at + 16 }
-{
-    let after_word = put(out, at, b"pair");
-    let after_r = put_number(out, after_word, r);
-    let after_a = put_number(out, after_r, a);
-    let after_b = put_number(out, after_a, b);
-    let after_v = put_number(out, after_b, v);
-    put(out, after_v, b"\n")
-}
-
-// The byte at i of the model, and 0 past its end.
-fn byte_at(model: &[u8], i: usize) -> usize
-    ensures { (result ≡ get_or model.now i 0) × (result < 256) }
-{
-    if i < model.len() { size(model[i]) } else { 0 }
+    text.put(word);
+    for n in numbers {
+        put_number(text, *n);
+    }
+    text.put_byte(b'\n');
 }
 
 // Appends the line of cell (a, b) of routine r's row, if the cell is not 0.
-fn put_cell(out: &mut [u8], at: usize, model: &[u8], r: usize, a: usize, b: usize) -> usize
-    requires { (at < 100000) × (r < most_routines) × (a < row_names) × (b < row_names) }
-    ensures appends { Appends at (cell_line model.now r a b) out.old out.new result }
-    ensures few { result ≤ at + 16 }
+fn put_cell(text: &mut Text<'_>, model: &[u8], r: usize, a: usize, b: usize)
+    requires { (text.old.at < 100000) × (r < most_routines) × (a < row_names) × (b < row_names) }
+    ensures appends { Puts (cell_line model.now r a b) text.old text.new }
+    ensures few { text.new.at ≤ text.old.at + 16 }
 {
-    let v = byte_at(model, ROW_BYTES * r + (ROW_NAMES * a + b));
+    let cell = ROW_BYTES * r + (ROW_NAMES * a + b);
+    let v = u64::from(model.get(cell).copied().unwrap_or(0));
     if v == 0 {
-        at
-    } else {
-        put_pair(out, at, r as u64, a as u64, b as u64, v as u64)
+        return;
     }
+    put_line(text, b"pair", &[r as u64, a as u64, b as u64, v]);
 }
 
-// Appends the lines of the cells (a, b) of routine r's row, for each b.
-fn put_cells(out: &mut [u8], at: usize, model: &[u8], r: usize, a: usize) -> usize
-    requires { (at < 90000) × (r < most_routines) × (a < row_names) }
-    ensures appends { Appends at (each row_names (λ b. cell_line model.now r a b))
-        out.old out.new result }
-    ensures few { result ≤ at + 128 }
+// Appends the lines of the cells (a, b) of routine r's row, for each b. Here and below the loops go over the numbers and
+// not over slices of the model: the numbers are what a line has, and one place alone reads the model.
+fn put_cells(text: &mut Text<'_>, model: &[u8], r: usize, a: usize)
+    requires { (text.old.at < 90000) × (r < most_routines) × (a < row_names) }
+    ensures appends { Puts (each row_names (λ b. cell_line model.now r a b)) text.old text.new }
+    ensures few { text.new.at ≤ text.old.at + 128 }
 {
-    let mut p = at;
     for b in 0..ROW_NAMES {
-        let next = put_cell(out, p, model, r, a, b);
-        p = next;
+        put_cell(text, model, r, a, b);
     }
-    p
 }
 
 // Appends the lines of routine r's row.
-fn put_row(out: &mut [u8], at: usize, model: &[u8], r: usize) -> usize
-    requires { (at < 80000) × (r < most_routines) }
-    ensures appends { Appends at (each row_names (λ a. each row_names (λ b. cell_line model.now r a b)))
-        out.old out.new result }
-    ensures few { result ≤ at + 1024 }
+fn put_row(text: &mut Text<'_>, model: &[u8], r: usize)
+    requires { (text.old.at < 80000) × (r < most_routines) }
+    ensures appends { Puts (each row_names (λ a. each row_names (λ b. cell_line model.now r a b))) text.old text.new }
+    ensures few { text.new.at ≤ text.old.at + 1024 }
 {
-    let mut p = at;
     for a in 0..ROW_NAMES {
-        let next = put_cells(out, p, model, r, a);
-        p = next;
+        put_cells(text, model, r, a);
     }
-    p
 }
 
 // Appends the lines of the rows of n routines.
-pub fn put_rows(out: &mut [u8], at: usize, model: &[u8], n: usize) -> usize
-    requires { (at < 100) × (n ≤ most_routines) }
-    ensures appends { Appends at (pair_lines n model.now) out.old out.new result }
-    ensures few { result ≤ at + 1024 * n }
+pub fn put_rows(text: &mut Text<'_>, model: &[u8], n: usize)
+    requires { (text.old.at < 100) × (n ≤ most_routines) }
+    ensures appends { Puts (pair_lines n model.now) text.old text.new }
+    ensures few { text.new.at ≤ text.old.at + 1024 * n }
 {
-    let mut p = at;
     for r in 0..n {
-        let next = put_row(out, p, model, r);
-        p = next;
+        put_row(text, model, r);
     }
-    p
 }
 
 // Appends the line of a share.
-pub fn put_share(out: &mut [u8], at: usize, share: Share) -> usize
-    requires { (at < 70000) × FewDigits share }
-    ensures appends { Appends at (share_line share) out.old out.new result }
-    ensures few { result ≤ at + 15 }
+pub fn put_share(text: &mut Text<'_>, share: Share)
+    requires { (text.old.at < 70000) × FewDigits share }
+    ensures appends { Puts (share_line share) text.old text.new }
+    ensures few { text.new.at ≤ text.old.at + 15 }
 {
-    let after_word = put(out, at, b"share");
-    let after_percent = put_number(out, after_word, share.percent);
-    let after_remainder = put_number(out, after_percent, share.remainder);
-    let after_reached = put_number(out, after_remainder, share.reached);
-    put(out, after_reached, b"\n")
-}
-
-// Appends the line of a ring.
-fn put_ring(out: &mut [u8], at: usize, routine: u64, name: u64) -> usize
-    requires { (at < 70000) × (routine < 100) × (name < 100) }
-    ensures appends { Appends at (line ring_word (routine ∷ name ∷ [])) out.old out.new result }
-    ensures few { result ≤ at + 11 }
-{
-    let after_word = put(out, at, b"ring");
-    let after_routine = put_number(out, after_word, routine);
-    let after_name = put_number(out, after_routine, name);
-    put(out, after_name, b"\n")
+    put_line(
+        text,
+        b"share",
+        &[share.percent, share.remainder, share.reached],
+    );
 }
 
 // Appends the line of a verdict.
-pub fn put_verdict(out: &mut [u8], at: usize, verdict: Verdict) -> usize
-    requires { (at < 70000) × Short verdict }
-    ensures appends { Appends at (verdict_line verdict) out.old out.new result }
-    ensures few { result ≤ at + 11 }
+pub fn put_verdict(text: &mut Text<'_>, verdict: Verdict)
+    requires { (text.old.at < 70000) × Short verdict }
+    ensures appends { Puts (verdict_line verdict) text.old text.new }
+    ensures few { text.new.at ≤ text.old.at + 11 }
 {
     match verdict {
-        Verdict::Clear => put(out, at, b"clear\n"),
-        Verdict::Ring(ring) => put_ring(out, at, ring.routine, ring.name),
+        Verdict::Clear => put_line(text, b"clear", &[]),
+        Verdict::Ring(ring) => put_line(text, b"ring", &[ring.routine, ring.name]),
     }
 }

@@ -1,6 +1,7 @@
 -- Finding the order: after i bodies the routines met are those of the definition.
 use mathlib.Core.Path.{◌≡◌, refl, sym, ap, ◌∙◌, subst}
 use mathlib.Core.List.{List, [], ◌∷◌, ◌++◌}
+use Rattle.std.specs.Prelude.{None}
 use mathlib.Core.Option.{some}
 use Prim.Native.Nat.{ℕ, ◌+◌, ◌*◌, ◌≤◌, ◌<◌}
 use native.Mathlib.Nat.{add_comm}
@@ -27,7 +28,7 @@ use Rattle.order.proofs.OrderLaws.{list_length}
 use Rattle.order.specs.Laws.Program.{items_here, rest, few_routines, few_bytes}
 
 -- no routine is met
-pub none_listed : (o : Order) → o.count ≡ 0 → length o.routines ≡ 64 → o.places ≡ replicate 64 64 → Listed o
+pub none_listed : (o : Order) → o.count ≡ 0 → length o.routines ≡ 64 → o.places ≡ replicate 64 None → Listed o
 none_listed o z r p = record {
   long = r;
   places_long = rw p refl;
@@ -35,7 +36,7 @@ none_listed o z r p = record {
   once = rw nothing tt;
   below = λ x i. absurd (rw nothing at i);
   placed = λ x i. absurd (rw nothing at i);
-  unplaced = λ x l n. rw p (get_or-replicate 64 x 64 0 l);
+  unplaced = λ x l n. rw p (get_or-replicate 64 x None None l);
 }
   where
     nothing : list_of o ≡ []
@@ -48,7 +49,7 @@ pub record Finding (ks s starts : List ℕ) (o : Order) (i : ℕ) : Type 0 where
   pub bytes : (P : Program) → HoldsAt P ks s starts → o.bytes ≡ body_sizes P (take i (order P))
   pub bound : o.bytes ≤ most_bytes * i
 
-module _ (ks s starts : List ℕ) where
+module _ {ks s starts : List ℕ} where
   pub finding_start : (blank o : Order) → blank.count ≡ 0 → blank.bytes ≡ 0 → Met blank o 0 → Finding ks s starts o 0
   unfolding found
   finding_start blank o z y m = record {
@@ -61,7 +62,7 @@ module _ (ks s starts : List ℕ) where
       alone : (P : Program) → met (list_of blank) 0 ≡ found P 0
       alone P = ap (λ n. met (take n blank.routines) 0) z
 
-  module _ (o : Order) (i : ℕ) (g : Finding ks s starts o i) (lt : i < o.count) where
+  module _ {o : Order} {i : ℕ} (g : Finding ks s starts o i) (lt : i < o.count) where
     abbrev here : ℕ
     here = get_or o.routines i 0
 
@@ -148,8 +149,8 @@ module _ (ks s starts : List ℕ) where
               let x = g.bound in
               omega arith
 
-  pub finding_end : (o : Order) (i : ℕ) → Finding ks s starts o i → o.count ≤ i → Ordered ks s starts o
-  finding_end o i g le = record { listed = g.listed; list = last; bytes = whole }
+  pub finding_end : {o : Order} {i : ℕ} → Finding ks s starts o i → o.count ≤ i → Ordered ks s starts o
+  finding_end {o} {i} g le = record { listed = g.listed; list = last; bytes = whole }
     where
       last : (P : Program) → HoldsAt P ks s starts → list_of o ≡ order P
       last P h =

@@ -8,7 +8,7 @@ use borrow.Author.Tests.{ne_eqb}
 use native.Mathlib.Decide.{ℕ_discrete}
 use lib.ListN.{length, get_or, drop, length-append}
 use lib.Seq.{drop-drop, drop-append_seam}
-use Rattle.pairs.specs.Walks.{past_item}
+use Rattle.table.specs.Laws.Passing.{past_item}
 use Rattle.canon.specs.Canonical.{met, all_met}
 use Rattle.order.specs.declared.Order.{Order}
 use Rattle.order.specs.Items.{Item, mark, making, mirroring, locking, calling, item_bytes, flat, called_in}
@@ -75,23 +75,16 @@ pub record Stepped (ks s : List ℕ) (i : ℕ) (v w : Order) : Type 0 where
   pub meets : CallsMet ks s i v w
   pub bytes : w.bytes ≡ v.bytes
 
-pub stepped_call : (ks s : List ℕ) (i : ℕ) (v w : Order) → get_or s i 0 ≡ 6 → Met v w (get_or s (i + 1) 0)
+pub stepped_call : {ks s : List ℕ} {i : ℕ} {v w : Order} → get_or s i 0 ≡ 6 → Met v w (get_or s (i + 1) 0)
     → Stepped ks s i v w
-stepped_call ks s i v w e m = record { listed = m.listed; meets = meets_call ks s i v w e m; bytes = m.bytes }
+stepped_call {ks} {s} {i} {v} {w} e m = record { listed = m.listed; meets = meets_call ks s i v w e m; bytes = m.bytes }
 
-pub stepped_other : (ks s : List ℕ) (i : ℕ) (v : Order) → get_or s i 0 ≢ 6 → Listed v → Stepped ks s i v v
-stepped_other ks s i v n l = record { listed = l; meets = meets_other ks s i v n; bytes = refl }
+pub stepped_other : {ks s : List ℕ} {i : ℕ} {v : Order} → get_or s i 0 ≢ 6 → Listed v → Stepped ks s i v v
+stepped_other {ks} {s} {i} {v} n l = record { listed = l; meets = meets_other ks s i v n; bytes = refl }
 
-module _ (ks s : List ℕ) (at end : ℕ) (o : Order) where
-  pub meeting_start : Listed o → Meeting ks s at end o at o
-  meeting_start l = record {
-    listed = l;
-    bound = omega arith;
-    each = λ old ts r i. record { old = old; items = ts; items_at = i; whole = refl; sized = refl };
-  }
-
-  pub meeting_end : (i : ℕ) (v : Order) → Meeting ks s at end o i v → end ≤ i → AllMet ks s at end o v
-  meeting_end i v g le = record { listed = g.listed; list = λ old ts l ia. go ts (g.each old ts l ia) }
+module _ {ks s : List ℕ} {at end : ℕ} {o : Order} where
+  pub meeting_end : {i : ℕ} {v : Order} → Meeting ks s at end o i v → end ≤ i → AllMet ks s at end o v
+  meeting_end {i} {v} g le = record { listed = g.listed; list = λ old ts l ia. go ts (g.each old ts l ia) }
     where
       go : (ts : List Item) {l : List ℕ} → Left ks s end o i v ts l
           → (list_of v ≡ all_met (list_of o) (called_in ts)) × (v.bytes ≡ o.bytes + sizes ts)
@@ -105,7 +98,7 @@ module _ (ks s : List ℕ) (at end : ℕ) (o : Order) where
           by (t ∷ us) ia e f = absurd
               (let a = ia.ends in let b = bytes_some t in let c = length-append (item_bytes t) (flat us) in omega arith)
 
-  module _ (i : ℕ) (v : Order) (g : Meeting ks s at end o i v) (lt : i < end) where
+  module _ {i : ℕ} {v : Order} (g : Meeting ks s at end o i v) (lt : i < end) where
     pub any_item : CanMeet ks s at end o → AnyItem ks s i
     any_item b = by z.items z.items_at
       where
@@ -138,7 +131,7 @@ module _ (ks s : List ℕ) (at end : ℕ) (o : Order) where
         (c.there, omega arith)
 
     -- the item after which the next one stands at j
-    module _ (b : CanMeet ks s at end o) (j : ℕ) (passed : j ≡ past_item ks s i) where
+    module _ (b : CanMeet ks s at end o) {j : ℕ} (passed : j ≡ past_item ks s i) where
       here : j ≡ i + length (item_bytes (item_at ks s i))
       here = passed ∙ past_item_lem ks s i (any_item b)
 

@@ -1,5 +1,5 @@
 -- What the functions that find the order of routines need and leave.
-use Rattle.std.specs.Prelude.{◌≡◌, cond, List, ℕ, ◌+◌, ◌^◌, ◌≤◌, ◌<◌, eqb, length, get_or, take}
+use Rattle.std.specs.Prelude.{◌≡◌, cond, None, Some, List, ℕ, ◌+◌, ◌^◌, ◌≤◌, ◌<◌, eqb, length, get_or, take}
 use Rattle.table.specs.Constants.{most_routines, most_bytes, MIRROR, code}
 use Rattle.table.specs.Program.{Program}
 use Rattle.table.specs.WellFormed.{In, NoDup}
@@ -8,25 +8,19 @@ use Rattle.order.specs.declared.Order.{Order}
 use Rattle.order.specs.Items.{Item, called_in, sizes, body_sizes}
 use Rattle.order.specs.Standing.{ItemsAt, HoldsAt}
 
--- an order, field by field
-abbrev pub order_of : List ℕ → List ℕ → ℕ → ℕ → Order
-order_of routines places count bytes =
-    record { routines = routines; places = places; count = count; bytes = bytes }
-
 -- the routines met so far, in order
 abbrev pub list_of : Order → List ℕ
 list_of o = take o.count o.routines
 
--- the arrays have the routines met so far, none twice, and the place of each; a routine not met has the place
--- most_routines
+-- the arrays have the routines met so far, none twice, and the place of each; a routine not met has none
 pub record Listed (o : Order) : Type 0 where
   pub long : length o.routines ≡ most_routines
   pub places_long : length o.places ≡ most_routines
   pub few : o.count ≤ most_routines
   pub once : NoDup (list_of o)
   pub below : (r : ℕ) → In r (list_of o) → r < most_routines
-  pub placed : (r : ℕ) → In r (list_of o) → get_or o.places r 0 ≡ position (list_of o) r
-  pub unplaced : (r : ℕ) → r < most_routines → (In r (list_of o) → ⊥) → get_or o.places r 0 ≡ most_routines
+  pub placed : (r : ℕ) → In r (list_of o) → get_or o.places r None ≡ Some (position (list_of o) r)
+  pub unplaced : (r : ℕ) → r < most_routines → (In r (list_of o) → ⊥) → get_or o.places r None ≡ None
 
 -- routine r was met
 pub record Met (o v : Order) (r : ℕ) : Type 0 where
@@ -34,14 +28,9 @@ pub record Met (o v : Order) (r : ℕ) : Type 0 where
   pub list : list_of v ≡ met (list_of o) r
   pub bytes : v.bytes ≡ o.bytes
 
--- the same, of the arrays and the count alone
-abbrev pub Meets : List ℕ → List ℕ → ℕ → List ℕ → List ℕ → ℕ → ℕ → Type 0
-Meets routines places count routines' places' n r =
-    (b : ℕ) → Met (order_of routines places count b) (order_of routines' places' n b) r
-
 -- the order with n bytes more
 abbrev pub counted : Order → ℕ → Order
-counted o n = order_of o.routines o.places o.count (o.bytes + n)
+counted o n = record o { bytes = o.bytes + n }
 
 -- how many of the n bytes of an item with code b the canonical table has
 abbrev pub kept : ℕ → ℕ → ℕ

@@ -43,7 +43,7 @@ pub record NameAt (s : List ℕ) (at : ℕ) : Type 0 where
   pub low : get_or s at 0 < most_names
 
 -- a CALL stands at the offset
-pub record CallAt (ks s : List ℕ) (at : ℕ) (ps : List ℕ) : Type 0 where
+pub record CallAt {A : Type 0} (ks s : List ℕ) (at : ℕ) (ps : List A) : Type 0 where
   pub there : at + 1 < length s
   pub routine : get_or s (at + 1) 0 < length ks
   pub place : get_or s (at + 1) 0 < length ps

@@ -9,9 +9,8 @@ use native.Mathlib.Omega.{arith}
 use native.Mathlib.Decide.{dec_lt}
 use native.Mathlib.Nat.{div-one}
 use lib.Bits.{bit_or, or_lt}
-use lib.ListN.{length, get_or, get_elem?, drop, length-drop, length-map}
+use lib.ListN.{length, get_or, get_elem?, drop, length-drop, length-map, take}
 use lib.Seq.{length-take-le, get_or-take, get_or-drop}
-use borrow.Author.Tests.{le-ltb}
 use Rattle.table.specs.Constants.{most_forks}
 use Rattle.rules.specs.Label.{Label, own, unknown, several, placed}
 use Rattle.rules.specs.Number.{number, label_of, labels}
@@ -20,13 +19,16 @@ use Rattle.grid.specs.Rows.{Has, Bits}
 use Rattle.grid.specs.Grid.{In, Small, Added}
 use Rattle.grid.proofs.Laws.Masks.{below_bits, bits_or, bits_one, bits_shl}
 use Rattle.grid.proofs.Laws.Labels.{not_several, in_one, one_in}
-use Rattle.pairs.specs.Walks.{held_by, root_of, in_nest, holder_under}
-use Rattle.pairs.specs.Gains.{HoldersGive, CallGives, Gains, names_at, roots_at, LowAt, MaskGives, Placed}
+use Rattle.std.specs.Prelude.{Option as Found, None, Some, is_some}
+use Rattle.pairs.specs.declared.walk.Level.{Level}
+use Rattle.pairs.specs.Walks.{Walk}
+use Rattle.pairs.specs.Walks.{held_by, arg_of, level_of, root_of, in_nest, inside_lock}
+use Rattle.pairs.specs.Gains.{HoldersGive, CallGives, CallPairs, Gains, Low, names_at, MaskGives, Placed}
 use Rattle.rows.specs.Bytes.{Labelled, RowBits}
 use Rattle.rows.specs.Laws.Cells.{no_label}
-use Rattle.pairs.specs.Gains.{Below, CellGives, LineGives, RowGives, RowReady, CallReady}
+use Rattle.pairs.specs.Gains.{Below, CellGives, LineGives, RowGives, CallReady}
 use Rattle.pairs.proofs.Pending.{LockGives}
-use Rattle.pairs.proofs.Tracking.{held_name, in_nest_lem, not_in_nest}
+use Rattle.pairs.proofs.Tracking.{in_nest_lem, not_in_nest}
 
 pub gains_none : (g : List (List ℕ)) (N : ℕ → ℕ → Label → Type 0) → Small g → ((a b : ℕ) (l : Label) → N a b l → ⊥)
     → Gains g N g
@@ -79,28 +81,9 @@ gains_added {g} {r} {a} {b} {L} p = record {
   new = λ x y l w k. rw (w.0, w.1) (p.new l w.2 (rw (w.0, w.1) at k));
 }
 
--- what a byte that stands for a name, or for nothing, tells
-pub held_none : (n : ℕ) → 16 ≤ n → held_by n ≡ none
-held_none n h = rw (le-ltb n 16 h)
-
-pub held_same : (n x : ℕ) → n < 16 → held_by n ≡ some x → x ≡ n
-held_same n x h e = let f = held_name n h in let g : some n ≡ some x = sym f ∙ e in cc
-
-pub held_never : (n x : ℕ) → 16 ≤ n → held_by n ≡ some x → ⊥
-held_never n x h e =
-    let f : none ≡ some x = sym (held_none n h) ∙ e in let z : ◌≡◌ {A = ℕ} 0 1 = cc in omega arith
-
-pub cell_gains : {g r : List (List ℕ)} (a b m : ℕ) → a < 16 → b < 16 → Added g a b (In m) r
-    → Gains g (MaskGives (held_by a) (held_by b) m) r
-cell_gains a b m ha hb p =
-    gains_map
-    (λ x y l w. (held_name a ha ∙ ap some (sym w.0), held_name b hb ∙ ap some (sym w.1), w.2))
-    (λ x y l w. (held_same a x ha w.0, held_same b y hb w.1, w.2))
-    (gains_added p)
-
--- the mask of the thread that a LOCK is in, as the code works it out
-pub lock_mask : (t : ℕ) → t ≤ most_forks → 1 * 2 ^ t % 65536 < 2 ^ labels
-lock_mask t l = below_bits labels _ (omega arith) (λ j h. let e = (bits_one t (omega arith)).to j h in omega arith)
+pub cell_gains : {g r : List (List ℕ)} (a b m : ℕ) → Added g a b (In m) r
+    → Gains g (MaskGives (some a) (some b) m) r
+cell_gains a b m p = gains_map (λ x y l w. (cc, cc, w.2)) (λ x y l w. (cc, cc, w.2)) (gains_added p)
 
 pub mask_gains : {g r : List (List ℕ)} (p q : Option ℕ) (t : ℕ) → t ≤ most_forks
     → Gains g (MaskGives p q (1 * 2 ^ t % 65536)) r → Gains g (HoldersGive p q (label_of t)) r
@@ -111,34 +94,30 @@ mask_gains p q t n =
     (λ a b l w. (w.0, w.1, one_in _ t l (omega arith) o w.2))
 
 -- from the holder outside a LOCK to the one inside: a pair with equal ends is not kept
-pub lock_gains : {g r : List (List ℕ)} (h z t m : ℕ) → z < 16 → t ≤ most_forks
-    → Gains g (HoldersGive (held_by h) (held_by (holder_under m h z)) (label_of t)) r
-    → Gains g (LockGives (Has m) z (label_of t) (held_by h)) r
-lock_gains {g} {r} h z t m k n = go (in_nest m z) refl
+pub lock_gains : {g r : List (List ℕ)} (v : Level) (z : ℕ) → v.thread ≤ most_forks
+    → Gains g (HoldersGive (held_by v.holder) (held_by (inside_lock v z).holder) (label_of v.thread)) r
+    → Gains g (LockGives (Has v.nest) z (label_of v.thread) (held_by v.holder)) r
+lock_gains {g} {r} v z n = go (in_nest v.nest z) refl
   where
-    go : (v : Bool) → in_nest m z ≡ v → Gains g (HoldersGive (held_by h) (held_by (cond v h z)) (label_of t)) r
-        → Gains g (LockGives (Has m) z (label_of t) (held_by h)) r
+    go : (x : Bool) → in_nest v.nest z ≡ x
+        → Gains g (HoldersGive (held_by v.holder) (held_by (cond x v.holder (Some z))) (label_of v.thread)) r
+        → Gains g (LockGives (Has v.nest) z (label_of v.thread) (held_by v.holder)) r
     go true e =
         gains_same
         (λ a b l w. ⊎_elim
         (λ ne. absurd (ne (let same : some a ≡ some b = sym w.0 ∙ w.1 in cc)))
-        (λ s. absurd (not_several t (omega arith) (sym w.2 ∙ s))))
-        (λ a b l w kept. absurd (w.0 (in_nest_lem m z e)))
+        (λ s. absurd (not_several v.thread (omega arith) (sym w.2 ∙ s))))
+        (λ a b l w kept. absurd (w.0 (in_nest_lem v.nest z e)))
     go false e =
         gains_map
-        (λ a b l w. (not_in_nest m z e, w.0, held_same z b k w.1, w.2))
-        (λ a b l w. (w.1, held_name z k ∙ ap some (sym w.2), w.3))
+        (λ a b l w. (not_in_nest v.nest z e, w.0, cc, w.2))
+        (λ a b l w. (w.1, cc, w.3))
 
 -- the i-th name of a list
 pub name_some : (xs : List ℕ) (i : ℕ) → i < length xs → get_elem? xs i ≡ some (get_or xs i 0)
 name_some [] i h = absurd (omega arith)
 name_some (x ∷ xs) zero h = refl
 name_some (x ∷ xs) (suc i) h = name_some xs i (omega arith)
-
-pub name_none : (xs : List ℕ) (i : ℕ) → length xs ≤ i → get_elem? xs i ≡ none
-name_none [] i h = refl
-name_none (x ∷ xs) zero h = absurd (omega arith)
-name_none (x ∷ xs) (suc i) h = name_none xs i (omega arith)
 
 -- the i-th entry of the images of a list
 map_entry : (f : ℕ → ℕ) (xs : List ℕ) (i : ℕ) → i < length xs → get_or (map f xs) i 0 ≡ f (get_or xs i 0)
@@ -152,41 +131,18 @@ renamed_within h [] (suc i) x e = let z : ◌≡◌ {A = ℕ} 0 1 = cc in omega 
 renamed_within h (y ∷ xs) (suc zero) x e = omega arith
 renamed_within h (y ∷ xs) (suc (suc i)) x e = let z = renamed_within h xs (suc i) x e in omega arith
 
-module _ (s : List ℕ) (at k : ℕ) (l : at + k ≤ length s) where
-  pub names_length : length (names_at s at k) ≡ k
-  names_length = length-take-le k (drop at s) (rw (length-drop at s) (omega arith))
+-- the name for a parameter of the callee is the root of the name at the call
+module _ (rs xs : List ℕ) where
+  pub root_low : Low (map (root_of rs) xs) → (i : ℕ) → i < length xs → root_of rs (get_or xs i 0) < 16
+  root_low low i l = rw (← map_entry (root_of rs) xs i l) (low i)
 
-  pub names_byte : (i : ℕ) → i < k → get_or (names_at s at k) i 0 ≡ get_or s (at + i) 0
-  names_byte i h = get_or-take k (drop at s) i 0 h ∙ get_or-drop at s i 0
-
-  module _ (rs : List ℕ) where
-    roots_length : length (roots_at rs s at k) ≡ k
-    roots_length = length-map (names_at s at k) (root_of rs) ∙ names_length
-
-    roots_byte : (i : ℕ) → i < k → get_or (roots_at rs s at k) i 0 ≡ root_of rs (get_or s (at + i) 0)
-    roots_byte i h =
-        map_entry (root_of rs) (names_at s at k) i (let z = names_length in omega arith) ∙ ap (root_of rs) (names_byte i h)
-
-    -- the name is an entry of the array of roots
-    pub byte_low : LowAt rs s at k → (i : ℕ) → 1 ≤ i → i ≤ k → get_or s (at + (i - 1)) 0 < 16
-    byte_low n i a b = rw (← names_byte (i - 1) (omega arith)) (n.0 (i - 1))
-
-    pub renamed_name : (h : Option ℕ) → LowAt rs s at k → (i : ℕ) → 1 ≤ i → i ≤ k
-        → held_by (root_of rs (get_or s (at + (i - 1)) 0)) ≡ renamed h (roots_at rs s at k) i
-    renamed_name h n zero a b = absurd (omega arith)
-    renamed_name h n (suc i) a b =
-        let e : suc i - 1 ≡ i = omega arith in
-        let f = roots_byte i (omega arith) in
-        let g : root_of rs (get_or s (at + i) 0) < 16 = rw f at (n.1 i) in
-        rw e (held_name (root_of rs (get_or s (at + i) 0)) g ∙ ap some (sym f)
-        ∙ sym (name_some (roots_at rs s at k) i (let z = roots_length in omega arith)))
-
-    pub renamed_none : (h : Option ℕ) (i : ℕ) → k < i → none ≡ renamed h (roots_at rs s at k) i
-    renamed_none h zero b = absurd (omega arith)
-    renamed_none h (suc i) b = sym (name_none (roots_at rs s at k) i (let z = roots_length in omega arith))
-
-pub renamed_first : (n : ℕ) (xs : List ℕ) (i : ℕ) → i ≡ 0 → held_by n ≡ renamed (held_by n) xs i
-renamed_first n xs i e = rw e
+  pub renamed_name : (h : Option ℕ) (i : ℕ) → (i ≡ 0 → ⊥) → i ≤ length xs
+      → some (root_of rs (get_or xs (i - 1) 0)) ≡ renamed h (map (root_of rs) xs) i
+  renamed_name h zero n l = absurd (n refl)
+  renamed_name h (suc i) n l =
+      let e : suc i - 1 ≡ i = omega arith in
+      rw e (ap some (sym (map_entry (root_of rs) xs i (omega arith)))
+      ∙ sym (name_some (map (root_of rs) xs) i (let z = length-map xs (root_of rs) in omega arith)))
 
 -- the mask of a cell's labels in a thread, as the code works it out
 pub placed_mask : (v t : ℕ) → t ≤ most_forks
@@ -243,9 +199,6 @@ placed_mask v t l = record { small = low; only = only; all = all }
     all several h = (number several, omega arith, refl, bits.from (number several) (inr (h, refl)))
 
 -- the gains one after another
-pub below_none : (N : ℕ → ℕ → ℕ → Label → Type 0) (g : List (List ℕ)) → Small g → Gains g (Below N 0) g
-below_none N g s = gains_none g _ s (λ a b l w. let z = w.1 in omega arith)
-
 pub below_more : (N : ℕ → ℕ → ℕ → Label → Type 0) {g n r : List (List ℕ)} (j : ℕ) → Gains g (Below N j) n
     → Gains n (N j) r → Gains g (Below N (j + 1)) r
 below_more N j p q =
@@ -258,13 +211,27 @@ below_more N j p q =
     ])
     (gains_then p q)
 
+-- a cell of a line, as the loop over the line reads it
+pub cell_byte : (rows : List ℕ) (first n j : ℕ) → first + n ≤ length rows
+    → j < length (take (first + n - first) (drop first rows))
+    → get_or (take (first + n - first) (drop first rows)) j 0 ≡ get_or rows (first + j) 0
+cell_byte rows first n j l h =
+    let a = length-drop first rows in
+    let b = length-take-le (first + n - first) (drop first rows) (omega arith) in
+    get_or-take (first + n - first) (drop first rows) j 0 (omega arith) ∙ get_or-drop first rows j 0
+
+-- an end that is nothing
+pub held_none : (a : Found ℕ) → is_some a ≡ false → held_by a ≡ none
+held_none None e = refl
+held_none (Some x) e = absurd (let z : ◌≡◌ {A = ℕ} 0 1 = cc in omega arith)
+
 module _ (rows : List ℕ) (first : ℕ) (xs : List ℕ) (t : ℕ) (h : Option ℕ) where
   pub cell_skip : (p : Option ℕ) (j : ℕ) (g : List (List ℕ)) → Small g → get_or rows (first + j) 0 ≡ 0
       → Gains g (CellGives rows first xs (label_of t) h p j) g
   cell_skip p j g s e = gains_none g _ s (λ a b l w. no_label _ w.2.0 e w.2.1)
 
-  pub cell_next : {g r : List (List ℕ)} (p : Option ℕ) (j b m : ℕ) → held_by b ≡ renamed h xs j
-      → Placed (get_or rows (first + j) 0) t m → Gains g (MaskGives p (held_by b) m) r
+  pub cell_next : {g r : List (List ℕ)} (p : Option ℕ) (j : ℕ) (b : Option ℕ) (m : ℕ) → b ≡ renamed h xs j
+      → Placed (get_or rows (first + j) 0) t m → Gains g (MaskGives p b m) r
       → Gains g (CellGives rows first xs (label_of t) h p j) r
   cell_next p j b m eb q w =
       gains_map
@@ -272,23 +239,9 @@ module _ (rows : List ℕ) (first : ℕ) (xs : List ℕ) (t : ℕ) (h : Option �
       (λ x y l z. (z.0, eb ∙ z.1, rw z.2.2 (q.all z.2.0 z.2.1)))
       w
 
-  pub line_skip : (i n a : ℕ) (g : List (List ℕ)) → Small g → held_by a ≡ renamed h xs i → 16 ≤ a
+  pub line_skip : (i n : ℕ) (g : List (List ℕ)) → Small g → none ≡ renamed h xs i
       → Gains g (LineGives rows (first + 8 * i) xs (label_of t) h (renamed h xs i) n) g
-  line_skip i n a g s e l = gains_none g _ s (λ x y k w. held_never a x l (e ∙ w.2.0))
-
-  pub line_next : {g r : List (List ℕ)} (i n a : ℕ) → held_by a ≡ renamed h xs i
-      → Gains g (LineGives rows (first + 8 * i) xs (label_of t) h (held_by a) n) r
-      → Gains g (LineGives rows (first + 8 * i) xs (label_of t) h (renamed h xs i) n) r
-  line_next {g} {r} i n a e p =
-      subst (λ (v : Option ℕ). Gains g (LineGives rows (first + 8 * i) xs (label_of t) h v n) r) e p
-
--- a line of a row that can be recorded
-pub line_ready : (rs s : List ℕ) (at k : ℕ) (rows : List ℕ) (first t i : ℕ) → i ≤ k → RowReady rs s at k rows first 64 t
-    → RowReady rs s at k rows (first + 8 * i) 8 t
-line_ready rs s at k rows first t i l p =
-    let a = p.params in
-    let b = p.long in
-    record { there = p.there; params = p.params; names = p.names; long = omega arith; thread = p.thread }
+  line_skip i n g s e = gains_none g _ s (λ x y k w. absurd (let z : none ≡ some x = e ∙ w.2.0 in cc))
 
 -- all cells of the row
 cells_all : (rows : List ℕ) (r k : ℕ) (xs : List ℕ) (θ : Label) (h : Option ℕ) {g n : List (List ℕ)}
@@ -308,29 +261,20 @@ cells_all rows r k xs θ h lk lx p =
     p
 
 -- the row of a call, with the numbers that the code reads for it
-module _ (rs ks s rows : List ℕ) (at t : ℕ) (ready : CallReady rs ks s rows at t) (q k : ℕ)
-    (eq : q ≡ get_or s (at + 1) 0) (ek : k ≡ get_or ks q 0) where
-  count_is : k ≡ get_or ks (get_or s (at + 1) 0) 0
-  count_is = ek ∙ ap (λ (v : ℕ). get_or ks v 0) eq
+module _ (ks s rows : List ℕ) (w : Walk) (ready : CallReady ks s rows w) (xs : List ℕ)
+    (names : xs ≡ names_at s (w.at + 2) (get_or ks (arg_of s w) 0)) where
+  names_long : length xs ≡ get_or ks (arg_of s w) 0
+  names_long =
+      let a = length-drop (w.at + 2) s in
+      let b = ready.there in
+      ap length names ∙ length-take-le _ (drop (w.at + 2) s) (omega arith)
 
-  pub row_ready : RowReady rs s (at + 2) k rows (65 * q) 64 t
-  row_ready =
-      let a = ready.routine in
-      let b = ready.long in
-      record {
-        there = rw count_is ready.there;
-        params = rw count_is ready.params;
-        names = rw count_is ready.names;
-        long = omega arith;
-        thread = ready.thread;
-      }
-
-  pub row_gains : {g r : List (List ℕ)} (h : ℕ)
-      → Gains g (RowGives rows (65 * q) (roots_at rs s (at + 2) k) (label_of t) (held_by h) (k + 1) (k + 1)) r
-      → Gains g (CallGives (RowBits rows) (get_or s (at + 1) 0)
-      (roots_at rs s (at + 2) (get_or ks (get_or s (at + 1) 0) 0)) (label_of t) (held_by h)) r
-  row_gains {g} {r} h p =
-      subst (λ (v : ℕ). Gains g
-      (CallGives (RowBits rows) v (roots_at rs s (at + 2) (get_or ks v 0)) (label_of t) (held_by h)) r) eq
-      (subst (λ (v : ℕ). Gains g (CallGives (RowBits rows) q (roots_at rs s (at + 2) v) (label_of t) (held_by h)) r) ek
-      (cells_all rows q k _ _ _ row_ready.params (roots_length s (at + 2) k row_ready.there rs) p))
+  pub row_gains : {g r : List (List ℕ)}
+      → Gains g (RowGives rows (65 * arg_of s w) (map (root_of w.roots) xs) (label_of (level_of w).thread)
+      (held_by (level_of w).holder) (length xs + 1) (length xs + 1)) r
+      → Gains g (CallPairs ks s rows w) r
+  row_gains {g} {r} p =
+      let q = cells_all rows (arg_of s w) (length xs) (map (root_of w.roots) xs) (label_of (level_of w).thread)
+      (held_by (level_of w).holder) (let a = ready.params in let b = names_long in omega arith)
+      (length-map xs (root_of w.roots)) p in
+      rw names at q

@@ -17,7 +17,8 @@ use Rattle.rules.specs.Verdict.{Calls}
 use Rattle.rules.specs.Derived.{Pairs, RecordedFrom}
 use Rattle.grid.specs.Rows.{Bits}
 use Rattle.table.specs.Laws.Fine.{Calling, Uses}
-use Rattle.pairs.specs.Walks.{held_by, root_of}
+use Rattle.pairs.specs.Walks.{held_by, LowHolder, outermost, root_of}
+use Rattle.pairs.specs.declared.walk.Level.{Level as Holding}
 use Rattle.pairs.specs.Gains.{CallGives}
 
 -- a second alternative, and its place in the rules' terms
@@ -118,27 +119,28 @@ Scopes k n rs m j (level c u π ∷ ls) =
     InScope k n rs m j π c × SecondInScope k n rs (m + locals c) (j + forks c) u
     × Scopes k n rs (m + locals c + second_locals u) (j + forks c + second_forks u) ls
 
--- the numbers show the place: its holder, its thread, and its nest as a mask
-pub record Shows (h t m : ℕ) (π : Place) : Type 0 where
-  pub holder : π.holder ≡ held_by h
-  pub thread : π.thread ≡ label_of t
-  pub low : t ≤ most_forks
-  pub nest : Bits m (λ x. In x π.nest)
+-- what holds at a level shows the place: its holder, its thread, and its nest as a mask
+pub record Shows (v : Holding) (π : Place) : Type 0 where
+  pub holder : π.holder ≡ held_by v.holder
+  pub name : LowHolder v.holder
+  pub thread : π.thread ≡ label_of v.thread
+  pub low : v.thread ≤ most_forks
+  pub nest : Bits v.nest (λ x. In x π.nest)
 
--- entry n of the holders, of the threads and of the nests shows the place
-abbrev pub Entry : List ℕ → List ℕ → List ℕ → ℕ → Place → Type 0
-Entry hs ts ns n π = Shows (get_or hs n 0) (get_or ts n 0) (get_or ns n 0) π
+-- entry n shows the place
+abbrev pub Entry : List Holding → ℕ → Place → Type 0
+Entry vs n π = Shows (get_or vs n outermost) π
 
 -- the same of a second alternative
-abbrev pub SecondEntry : List ℕ → List ℕ → List ℕ → ℕ → Option Alternative → Type 0
-SecondEntry hs ts ns n none = Unit {0}
-SecondEntry hs ts ns n (some (other b κ)) = Entry hs ts ns n κ
+abbrev pub SecondEntry : List Holding → ℕ → Option Alternative → Type 0
+SecondEntry vs n none = Unit {0}
+SecondEntry vs n (some (other b κ)) = Entry vs n κ
 
 -- the same of each level
-abbrev pub Entries : List ℕ → List ℕ → List ℕ → List Level → Type 0
-Entries hs ts ns [] = Unit {0}
-Entries hs ts ns (level c u π ∷ ls) =
-    Entry hs ts ns (length ls) π × SecondEntry hs ts ns (length ls) u × Entries hs ts ns ls
+abbrev pub Entries : List Holding → List Level → Type 0
+Entries vs [] = Unit {0}
+Entries vs (level c u π ∷ ls) =
+    Entry vs (length ls) π × SecondEntry vs (length ls) u × Entries vs ls
 
 -- F holds of a second alternative
 abbrev pub InSecond : (Code → Place → Type 0) → Option Alternative → Type 0

@@ -1,13 +1,13 @@
 -- Recording a body item by item: what it records in all is what the grid has and what is recorded in what is left.
-use mathlib.Core.Path.{◌≡◌, refl, sym, ap, subst, ◌∙◌}
+use mathlib.Core.Path.{◌≡◌, refl, sym, ap, ◌∙◌}
 use mathlib.Core.Logic.{◌⊎◌, inl, inr, ⊎_elim}
 use mathlib.Core.List.{List, [], ◌∷◌, ◌++◌, map, append_assoc}
 use mathlib.Core.Option.{Option, none}
 use Prim.Native.Nat.{ℕ, zero, suc, ◌+◌, ◌-◌, ◌*◌, ◌≤◌, ◌<◌}
 use native.Mathlib.Omega.{arith}
 use lib.ListN.{length, get_or, take, drop}
-use lib.Seq.{drop-drop, take_at}
-use Rattle.table.specs.Constants.{END, LOCK, CALL, code, most_forks}
+use lib.Seq.{drop-drop, take_at, get_or-set_same}
+use Rattle.table.specs.Constants.{END, LOCK, CALL, code, most_forks, most_names}
 use Rattle.table.specs.Program.{Code, lock, call}
 use Rattle.table.specs.WellFormed.{In}
 use Rattle.table.proofs.Laws.Lists.{In-map}
@@ -19,16 +19,18 @@ use Rattle.rules.specs.Derived.{Pairs, RecordedFrom}
 use Rattle.grid.specs.Rows.{Has}
 use Rattle.grid.specs.Grid.{Pair, Small, AllKept}
 use Rattle.table.specs.Laws.Fine.{Fine, IsBody}
-use Rattle.pairs.specs.Walks.{Walk, Ready, held_by, byte_of, arg_of, holder_of, thread_of, nest_of, root_of, Selves}
-use Rattle.pairs.specs.Walks.{holder_under, holder_inside, start_walk, moved_walk, next_walk, LockReady}
-use Rattle.pairs.specs.Gains.{Gains, HoldersGive, CallGives, Low, LowAt, names_at, roots_at, CallReady}
+use Rattle.pairs.specs.declared.walk.Level.{Level as Holding}
+use Rattle.pairs.specs.Walks.{Walk}
+use Rattle.pairs.specs.Walks.{Ready, held_by, LowHolder, byte_of, arg_of, level_of, root_of}
+use Rattle.pairs.specs.Walks.{inside_lock, start_walk, moved_walk, next_walk, outermost, past_item}
+use Rattle.pairs.specs.Gains.{Gains, HoldersGive, CallGives, CallPairs, Low, LowAt, names_at, roots_at, CallReady}
 use Rattle.rows.specs.Bytes.{RowBits}
 use Rattle.pairs.proofs.Pending.{Alternative, Level, level, bytes, second_bytes, closer, past, Left, InLeft}
 use Rattle.pairs.proofs.Pending.{AtItem, PairIn, PairAt, LockGives, Shows}
 use Rattle.pairs.specs.Parts.{Records}
 use Rattle.pairs.proofs.Steps.{Going, begins, place_there, few_levels, room, step, next_place, shrinks}
-use Rattle.pairs.proofs.Steps.{none_left, at_kind, quiet, byte_at, by_byte}
-use Rattle.pairs.proofs.Tracking.{Tracked, top_entry, name_low, root_low, track, ready, tracks}
+use Rattle.pairs.proofs.Steps.{none_left, at_kind, quiet, byte_at, by_byte, past_byte}
+use Rattle.pairs.proofs.Tracking.{Tracked, top_entry, name_low, root_low, track, ready, tracks, shows_lock}
 use Rattle.pairs.proofs.Gaining.{gains_none, gains_map, lock_gains}
 use Rattle.pairs.proofs.Parts.{left_past, past_left, pair_parts, parts_pair, pair_at}
 
@@ -60,16 +62,16 @@ pub record Recording (ks : List ℕ) (k : ℕ) (s : List ℕ) (at : ℕ) (rows :
   pub old : (a b : ℕ) (l : Label) → Pair f a b l → Pair g a b l
   pub each : (c : Code) (t : List ℕ) → Fine ks k c → drop at s ≡ encode END c ++ t → Recorded ks k s rows c t f w g
 
-pub record_start : (ks : List ℕ) (k : ℕ) (s : List ℕ) (at : ℕ) (rows : List ℕ) (f : List (List ℕ)) (rs : List ℕ)
-    → Small f → Selves rs → Recording ks k s at rows f (start_walk at k rs) f
-record_start ks k s at rows f rs small selves = record {
+pub record_start : (ks : List ℕ) (k : ℕ) (s : List ℕ) (at : ℕ) (rows : List ℕ) (f : List (List ℕ))
+    → Small f → Recording ks k s at rows f (start_walk at k) f
+record_start ks k s at rows f small = record {
   small = small;
   kept = λ z. z;
   old = λ a b l p. p;
   each = λ c t i e. record {
     levels = level c none at_head ∷ [];
     left = begins ks s t at k c i e;
-    tracked = tracks ks at k rs c i selves;
+    tracked = tracks ks at k c i;
     met = λ a b l p. inl p;
     pending = λ a b l p. ⊎_elim (λ y. y) (⊎_elim (λ y. absurd y) (λ y. absurd y)) p;
     all = λ a b l p k. inr (inl p);
@@ -79,20 +81,19 @@ record_start ks k s at rows f rs small selves = record {
 -- the pair from the holder outside a LOCK at the place to the one inside
 abbrev pub LockPairs : List ℕ → Walk → ℕ → ℕ → Label → Type 0
 LockPairs s w =
-    HoldersGive (held_by (holder_of w)) (held_by (holder_under (nest_of w) (holder_of w) (root_of w.roots (arg_of s w))))
-    (label_of (thread_of w))
+    HoldersGive (held_by (level_of w).holder) (held_by (inside_lock (level_of w) (root_of w.roots (arg_of s w))).holder)
+    (label_of (level_of w).thread)
 
--- what a CALL at the place records
-abbrev pub CallPairs : List ℕ → List ℕ → List ℕ → Walk → ℕ → ℕ → Label → Type 0
-CallPairs ks s rows w =
-    CallGives (RowBits rows) (arg_of s w) (roots_at w.roots s (w.at + 2) (get_or ks (arg_of s w) 0))
-    (label_of (thread_of w)) (held_by (holder_of w))
+-- past a LOCK, what holds at the place is what holds inside it
+opened_level : (ks s : List ℕ) (w : Walk) → byte_of s w ≡ code LOCK → w.top + 1 < length w.levels
+    → level_of (next_walk ks s w) ≡ inside_lock (level_of w) (root_of w.roots (arg_of s w))
+opened_level ks s w e l = ap level_of (by_byte ks s w 2 e) ∙ get_or-set_same w.levels (w.top + 1) _ outermost l
 
 -- the same gains, with equals for equals
-lock_same : {g r : List (List ℕ)} (h t m : ℕ) (π : Place) (u v : ℕ) → Shows h t m π → u ≡ v
-    → Gains g (LockGives (Has m) u (label_of t) (held_by h)) r
+lock_same : {g r : List (List ℕ)} (h : Holding) (π : Place) (u v : ℕ) → Shows h π → u ≡ v
+    → Gains g (LockGives (Has h.nest) u (label_of h.thread) (held_by h.holder)) r
     → Gains g (LockGives (λ z. In z π.nest) v π.thread π.holder) r
-lock_same h t m π u v k e p =
+lock_same h π u v k e p =
     gains_map
     (λ a b l z. ((λ i. z.0 (k.nest.from u (rw e i))), k.holder ∙ z.1, z.2 ∙ e, z.3 ∙ sym k.thread))
     (λ a b l z. ((λ i. z.0 (rw e at (k.nest.to u i))), sym k.holder ∙ z.1, z.2 ∙ sym e, z.3 ∙ k.thread))
@@ -123,14 +124,15 @@ low_images : (f : ℕ → ℕ) (xs : List ℕ) → ((x : ℕ) → In x xs → f 
 low_images f xs h = low_names (map f xs) (λ y i. let r = In-map f y xs i in rw r.2 (h r.0 r.1))
 
 module _ (ks s t : List ℕ) (k : ℕ) (w : Walk) where
-  thread_low : (ls : List Level) → Left ks s t w.at w.top ls → Tracked k w ls → thread_of w ≤ most_forks
-  thread_low [] p o = absurd (let z = p.count in omega arith)
-  thread_low (level c u π ∷ ls) p o = (top_entry ks s t k w c u π ls p o).low
+  here_low : (ls : List Level) → Left ks s t w.at w.top ls → Tracked k w ls
+      → LowHolder (level_of w).holder × ((level_of w).thread ≤ most_forks)
+  here_low [] p o = absurd (let z = p.count in omega arith)
+  here_low (level c u π ∷ ls) p o = let y = top_entry ks s t k w c u π ls p o in (y.name, y.low)
 
-  lock_ready : (ls : List Level) → Left ks s t w.at w.top ls → Tracked k w ls
-      → LockReady w.roots s w.at (byte_of s w)
-  lock_ready ls p o e =
-      let r = ready ks s t k w ls p o (λ f. absurd (omega arith)) in ((r.room LOCK e).0, r.names LOCK e)
+  inside_low : (ls : List Level) → Left ks s t w.at w.top ls → Tracked k w ls → (z : ℕ) → z < most_names
+      → LowHolder (inside_lock (level_of w) z).holder
+  inside_low [] p o z l = absurd (let z = p.count in omega arith)
+  inside_low (level c u π ∷ ls) p o z l = (shows_lock (top_entry ks s t k w c u π ls p o) z l).name
 
   lock_item_lem : (R : Pairs) (g r : List (List ℕ)) (ls : List Level) → Left ks s t w.at w.top ls → Tracked k w ls
       → byte_of s w ≡ code LOCK → Gains g (LockPairs s w) r → Gains g (λ a b l. AtItem (PairAt R a b l) ls) r
@@ -141,10 +143,9 @@ module _ (ks s t : List ℕ) (k : ℕ) (w : Walk) where
       let x : arg_of s w ≡ v.0 = byte_at s w.at 1 _ p'.content in
       let y = top_entry ks s t k w _ _ _ _ p' o' in
       let n = o'.scopes.0 in
-      let z : root_of w.roots (arg_of s w) < 16 = rw x (root_low k w _ _ _ _ o' v.0 n.uses.0) in
-      rw v.6 (lock_same (holder_of w) (thread_of w) (nest_of w) v.4 (root_of w.roots (arg_of s w))
-      (v.4.roots v.0) y (ap (root_of w.roots) x ∙ n.roots v.0 n.uses.0)
-      (lock_gains (holder_of w) (root_of w.roots (arg_of s w)) (thread_of w) (nest_of w) z y.low q))
+      rw v.6 (lock_same (level_of w) v.4 (root_of w.roots (arg_of s w)) (v.4.roots v.0) y
+      (ap (root_of w.roots) x ∙ n.roots v.0 n.uses.0)
+      (lock_gains (level_of w) (root_of w.roots (arg_of s w)) y.low q))
 
   module _ (r : ℕ) (xs : List ℕ) (c : Code) (u : Option Alternative) (π : Place) (ls : List Level)
       (p : Left ks s t w.at w.top (level (call r xs c) u π ∷ ls)) where
@@ -168,7 +169,7 @@ module _ (ks s t : List ℕ) (k : ℕ) (w : Walk) where
       )
 
   call_ready : (rows : List ℕ) (ls : List Level) → Left ks s t w.at w.top ls → Tracked k w ls
-      → byte_of s w ≡ code CALL → 65 * length ks ≤ length rows → CallReady w.roots ks s rows w.at (thread_of w)
+      → byte_of s w ≡ code CALL → 65 * length ks ≤ length rows → CallReady ks s rows w
   call_ready rows ls p o e long =
       let v = at_kind ks s t w.at w.top CALL ls p e in
       let p' : Left ks s t w.at w.top (level (call v.0 v.1 v.2) v.3 v.4 ∷ v.5) = rw v.6 at p in
@@ -182,7 +183,9 @@ module _ (ks s t : List ℕ) (k : ℕ) (w : Walk) where
         routine = d.1;
         params = rw m n.2;
         names = low_at_call _ _ _ _ _ _ p' o';
-        thread = (top_entry ks s t k w _ _ _ _ p' o').low;
+        few = few_levels ks s t w.at w.top ls p;
+        holder = (here_low ls p o).0;
+        thread = (here_low ls p o).1;
         long = long;
       }
 
@@ -196,8 +199,8 @@ module _ (ks s t : List ℕ) (k : ℕ) (w : Walk) where
       let x : arg_of s w ≡ v.0 = byte_at s w.at 1 _ p'.content in
       let y = top_entry ks s t k w _ _ _ _ p' o' in
       rw v.6
-      (call_same (RowBits rows) (arg_of s w) v.0 _ (map v.4.roots v.1) (label_of (thread_of w)) v.4.thread
-      (held_by (holder_of w)) v.4.holder x (roots_at_call _ _ _ _ _ _ p' o') y.thread y.holder q)
+      (call_same (RowBits rows) (arg_of s w) v.0 _ (map v.4.roots v.1) (label_of (level_of w).thread) v.4.thread
+      (held_by (level_of w).holder) v.4.holder x (roots_at_call _ _ _ _ _ _ p' o') y.thread y.holder q)
 
 module _ {ks : List ℕ} {k : ℕ} {s : List ℕ} {at : ℕ} {rows : List ℕ} {f : List (List ℕ)} {w : Walk} {g : List (List ℕ)}
     (p : Recording ks k s at rows f w g) (body : IsBody ks k s at) where
@@ -213,17 +216,31 @@ module _ {ks : List ℕ} {k : ℕ} {s : List ℕ} {at : ℕ} {rows : List ℕ} {
   pub record_ready : Going s w.at w.top → Ready ks s w
   record_ready h = ready ks s body.1 k w here.levels here.left here.tracked h
 
+  pub record_shrinks : Going s w.at w.top → length s - past_item ks s w.at < length s - w.at
+  record_shrinks h = shrinks ks s body.1 w.at w.top here.levels here.left h
+
   pub record_less : Going s w.at w.top → length s - (next_walk ks s w).at < length s - w.at
-  record_less h = rw (next_place ks s w).0 (shrinks ks s body.1 w.at w.top here.levels here.left h)
+  record_less h = rw (next_place ks s w).0 (record_shrinks h)
 
-  pub record_lock_ready : LockReady w.roots s w.at (byte_of s w)
-  record_lock_ready = lock_ready ks s body.1 k w here.levels here.left here.tracked
+  pub record_here : LowHolder (level_of w).holder × ((level_of w).thread ≤ most_forks)
+  record_here = here_low ks s body.1 k w here.levels here.left here.tracked
 
-  pub record_thread : thread_of w ≤ most_forks
-  record_thread = thread_low ks s body.1 k w here.levels here.left here.tracked
+  pub record_opened : Going s w.at w.top → byte_of s w ≡ code LOCK
+      → ((next_walk ks s w).top ≤ 16)
+      × (level_of (next_walk ks s w) ≡ inside_lock (level_of w) (root_of w.roots (arg_of s w)))
+  record_opened h e =
+      let r = ((record_ready h).room LOCK e).1 in
+      let l = here.tracked.long_levels in
+      let n : (next_walk ks s w).top ≡ w.top + 1 = ap (λ (v : Walk). v.top) (by_byte ks s w 2 e) in
+      (omega arith, opened_level ks s w e (omega arith))
+
+  pub record_inside : Going s w.at w.top → byte_of s w ≡ code LOCK
+      → LowHolder (inside_lock (level_of w) (root_of w.roots (arg_of s w))).holder
+  record_inside h e =
+      inside_low ks s body.1 k w here.levels here.left here.tracked _ ((record_ready h).names LOCK e).1
 
   pub record_call_ready : byte_of s w ≡ code CALL → 65 * length ks ≤ length rows
-      → CallReady w.roots ks s rows w.at (thread_of w)
+      → CallReady ks s rows w
   record_call_ready e l = call_ready ks s body.1 k w rows here.levels here.left here.tracked e l
 
   record_next : (r : List (List ℕ)) → Going s w.at w.top
@@ -259,17 +276,21 @@ module _ {ks : List ℕ} {k : ℕ} {s : List ℕ} {at : ℕ} {rows : List ℕ} {
             };
       }
 
-  pub record_lock : (r : List (List ℕ)) → Going s w.at w.top → byte_of s w ≡ code LOCK
-      → {inside : ℕ} → inside ≡ holder_inside w.roots s w.at (byte_of s w) (holder_of w) (nest_of w)
-      → Gains g (HoldersGive (held_by (holder_of w)) (held_by inside) (label_of (thread_of w))) r
+  pub record_lock : (r : List (List ℕ)) → Going s w.at w.top → byte_of s w ≡ code LOCK → Gains g (LockPairs s w) r
       → Recording ks k s at rows f (next_walk ks s w) r
-  record_lock r h e i q =
-      record_next r h (λ t ls y o. lock_item_lem ks s t k w (RowBits rows) g r ls y o e (rw (i, e) at q))
+  record_lock r h e q =
+      record_next r h (λ t ls y o. lock_item_lem ks s t k w (RowBits rows) g r ls y o e q)
 
   pub record_call : (r : List (List ℕ)) → Going s w.at w.top → byte_of s w ≡ code CALL
       → Gains g (CallPairs ks s rows w) r
       → Recording ks k s at rows f (next_walk ks s w) r
   record_call r h e q = record_next r h (λ t ls y o. call_item_lem ks s t k w rows g r ls y o e q)
+
+  -- past a CALL the walk is at the next item, and all else is as it was
+  pub record_called : (r : List (List ℕ)) → Going s w.at w.top → byte_of s w ≡ code CALL
+      → Gains g (CallPairs ks s rows w) r
+      → Recording ks k s at rows f (moved_walk w (past_item ks s w.at) w.top) r
+  record_called r h e q = rw (past_byte ks s w.at 6 e) (rw (by_byte ks s w 6 e) at (record_call r h e q))
 
   pub record_other : Going s w.at w.top → (byte_of s w ≡ code LOCK → ⊥) → (byte_of s w ≡ code CALL → ⊥)
       → Recording ks k s at rows f (next_walk ks s w) g
@@ -277,12 +298,11 @@ module _ {ks : List ℕ} {k : ℕ} {s : List ℕ} {at : ℕ} {rows : List ℕ} {
       record_next g h
       (λ t ls y o. gains_none g _ p.small (λ a b l. quiet ks s t w.at w.top (RowBits rows) a b l ls y n m))
 
-  -- past an END that closes a block
-  pub record_closed : byte_of s w ≡ code END → 1 ≤ w.top
+  -- past the END of a block the walk is one byte on, and one level out
+  pub record_close : byte_of s w ≡ code END → 1 ≤ w.top
       → Recording ks k s at rows f (moved_walk w (w.at + 1) (w.top - 1)) g
-  record_closed e l =
-      subst (λ (v : Walk). Recording ks k s at rows f v g) (by_byte ks s w 0 e)
-      (record_other (λ h. l) (λ h. absurd (omega arith)) (λ h. absurd (omega arith)))
+  record_close e n =
+      rw (by_byte ks s w 0 e) at (record_other (λ x. n) (λ x. absurd (omega arith)) (λ x. absurd (omega arith)))
 
   pub record_end : byte_of s w ≡ code END → w.top ≡ 0 → Records ks k s at rows f g
   record_end e n c t i h =

@@ -1,14 +1,11 @@
 -- Scanning a body item by item: what is called in all is what was met and what is called in what is left.
-use mathlib.Core.Path.{◌≡◌, refl}
+use mathlib.Core.Path.{◌≡◌}
 use mathlib.Core.Logic.{◌⊎◌, inl, inr, ⊎_elim}
 use mathlib.Core.List.{List, [], ◌∷◌, ◌++◌}
 use mathlib.Core.Option.{none}
 use Prim.Native.Nat.{ℕ, ◌+◌, ◌*◌, ◌%◌, ◌^◌, ◌-◌, ◌<◌}
 use native.Mathlib.Omega.{arith}
 use native.Mathlib.Nat.{one-mul}
-use lib.Dec.{eqb}
-use borrow.Author.Tests.{eqb-true, eqb-false}
-use mathlib.Core.Bool.{Bool, true, false}
 use lib.ListN.{length, get_or, drop}
 use lib.Pow.{shl_exact}
 use Rattle.table.specs.Constants.{END, CALL, code}
@@ -19,7 +16,7 @@ use Rattle.rules.specs.Verdict.{Calls}
 use Rattle.grid.specs.Rows.{Has, Bits}
 use Rattle.grid.proofs.Laws.Masks.{has_zero, has_pow, pow_has, bits_self, bits_map}
 use Rattle.table.specs.Laws.Fine.{Fine, IsBody}
-use Rattle.pairs.specs.Walks.{IsOver, Passable, LevelReady, past_item, top_by}
+use Rattle.pairs.specs.Walks.{Passable, LevelReady, past_item, top_by}
 use Rattle.pairs.proofs.Pending.{Level, level, past, Left, InLeft, AtItem, CallIn, CallAt}
 use Rattle.pairs.specs.Parts.{Scans}
 use Rattle.pairs.proofs.Steps.{Going, begins, place_there, few_levels, room, step, shrinks, none_left, end_met}
@@ -31,13 +28,6 @@ pub bit_wide : (q : ℕ) → q < 64 → Bits (1 * 2 ^ q % 18446744073709551616) 
 bit_wide q l =
     rw (shl_exact {a = 1} 1 q 64 (omega arith) (omega arith), one-mul)
     (record { to = λ j h. pow_has q j h; from = λ j h. rw h (has_pow q) })
-
-pub is_over : (b top : ℕ) → b ≡ 0 → IsOver b top (eqb top 0)
-is_over b top e = go (eqb top 0) refl
-  where
-    go : (v : Bool) → eqb top 0 ≡ v → IsOver b top v
-    go true f = (e, eqb-true top 0 f)
-    go false f = λ g. let z = eqb-false top 0 f in omega arith
 
 -- the scan of the body c, followed by t, is at the offset i, with an innermost open level, having met the calls
 pub record Scanned (ks s : List ℕ) (c : Code) (t : List ℕ) (i top calls : ℕ) : Type 0 where

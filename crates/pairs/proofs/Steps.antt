@@ -1,7 +1,7 @@
 -- One item of a body: its bytes, what it needs to be passed, and what is left past it.
 use mathlib.Core.Path.{◌≡◌, refl, sym, ap, subst, ◌∙◌}
-use mathlib.Core.Logic.{inl, inr, ⊎_elim}
-use mathlib.Core.Bool.{Bool, true, false, cond}
+use mathlib.Core.Logic.{⊎_elim}
+use mathlib.Core.Bool.{Bool, true, false}
 use mathlib.Core.List.{List, [], ◌∷◌, ◌++◌, append_assoc, append-nil}
 use mathlib.Core.Option.{Option, none, some}
 use Prim.Native.Nat.{ℕ, suc, ◌+◌, ◌-◌, ◌≤◌, ◌<◌}
@@ -9,8 +9,7 @@ use native.Mathlib.Omega.{arith}
 use lib.ListN.{length, get_or, drop, length-append, length-drop}
 use lib.Seq.{drop-drop, drop_at, get_or-drop}
 use lib.Dec.{eqb}
-use borrow.Author.Tests.{ne_eqb, eqb-false}
-use types.Run.{OneOf}
+use borrow.Author.Tests.{ne_eqb}
 use Rattle.table.specs.Constants.{Op, END, NEW, LOCK, FORK, CHOICE, OTHER, CALL, MIRROR, code, op_of}
 use Rattle.table.specs.Program.{Code, end, new, lock, fork, choice, call, mirror}
 use Rattle.table.specs.Encoding.{encode}
@@ -18,8 +17,9 @@ use Rattle.rules.specs.Label.{Label}
 use Rattle.rules.specs.Model.{Place, at_head}
 use Rattle.rules.specs.Derived.{Pairs}
 use Rattle.table.specs.Laws.Fine.{Fine}
-use Rattle.pairs.specs.Walks.{Walk, byte_of, RoomAt, Ready, passed_by, walk_by, next_walk, past_by, past_item, top_by}
-use Rattle.pairs.specs.Walks.{Passable, LevelReady}
+use Rattle.pairs.specs.Walks.{Walk}
+use Rattle.pairs.specs.Walks.{byte_of, RoomAt, Ready, passed_by, walk_by, next_walk, past_by, past_item, top_by}
+use Rattle.pairs.specs.Walks.{Passable}
 use Rattle.pairs.proofs.Pending.{Alternative, other, Level, level, bytes, item_bytes, past, Levels, Left}
 use Rattle.pairs.proofs.Pending.{InLeft, AtItem, CallAt, PairAt}
 
@@ -91,12 +91,9 @@ next_place ks s w = go (byte_of s w) (eqb (byte_of s w) 2) (eqb (byte_of s w) 3)
     go b false false false false true e f g h i = rw (e, f, g, h, i) (refl, refl)
     go b false false false false false e f g h i = rw (e, f, g, h, i) (refl, refl)
 
--- what passing the item needs of its bytes and of the level
+-- what passing the item needs of its bytes
 pub ready_pass : (ks s : List ℕ) (w : Walk) → Ready ks s w → Passable ks s w.at
 ready_pass ks s w r = record { here = r.here; routine = λ e. let z = r.room CALL e in (z.0, z.1) }
-
-pub ready_level : (ks s : List ℕ) (w : Walk) → Ready ks s w → LevelReady (byte_of s w) w.top
-ready_level ks s w r = record { some_open = λ e. r.room END e; few = r.few }
 
 -- the offset past an item with the byte b, and the innermost level there
 pub past_byte : (ks s : List ℕ) (at b : ℕ) → get_or s at 0 ≡ b → past_item ks s at ≡ past_by ks s at b
@@ -105,26 +102,7 @@ past_byte ks s at b e = ap (past_by ks s at) e
 pub top_byte : (top v b : ℕ) → v ≡ b → top_by top v ≡ top_by top b
 top_byte top v b e = ap (top_by top) e
 
--- past a LOCK or MIRROR, and past an item without operands
-pub past_two : (ks s : List ℕ) (at : ℕ) → OneOf (2 ∷ 7 ∷ []) (get_or s at 0) → past_item ks s at ≡ at + 2
-past_two ks s at (inl e) = past_byte ks s at 2 e
-past_two ks s at (inr e) = past_byte ks s at 7 e
-
-pub past_rest : (ks s : List ℕ) (at b : ℕ) → (b ≡ 2 → ⊥) → (b ≡ 7 → ⊥) → (b ≡ 6 → ⊥) → past_by ks s at b ≡ at + 1
-past_rest ks s at b p₂ p₇ p₆ = rw (ne_eqb b 2 p₂, ne_eqb b 7 p₇, ne_eqb b 6 p₆)
-
--- the level past an item that opens one, and past one that neither opens nor closes one
-pub top_open : (top b : ℕ) → 2 ≤ b → b ≤ 4 → top_by top b ≡ top + 1
-top_open top b l h = rw (ne_eqb b 0 (λ e. omega arith)) (go (eqb b 2) (eqb b 3) (eqb b 4) refl refl refl)
-  where
-    go : (x y z : Bool) → eqb b 2 ≡ x → eqb b 3 ≡ y → eqb b 4 ≡ z
-        → cond x (top + 1) (cond y (top + 1) (cond z (top + 1) top)) ≡ top + 1
-    go true y z e f g = refl
-    go false true z e f g = refl
-    go false false true e f g = refl
-    go false false false e f g =
-        absurd (let a = eqb-false b 2 e in let c = eqb-false b 3 f in let d = eqb-false b 4 g in omega arith)
-
+-- the level past an item that neither opens nor closes one
 pub top_rest : (top b : ℕ) → (b ≡ 0 → ⊥) → (b ≡ 2 → ⊥) → (b ≡ 3 → ⊥) → (b ≡ 4 → ⊥) → top_by top b ≡ top
 top_rest top b p₀ p₂ p₃ p₄ = rw (ne_eqb b 0 p₀, ne_eqb b 2 p₂, ne_eqb b 3 p₃, ne_eqb b 4 p₄)
 

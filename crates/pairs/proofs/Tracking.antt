@@ -1,15 +1,15 @@
 -- The walk's arrays past an item: the roots of the names, and what the entries show of the places of the levels.
 use mathlib.Core.Path.{◌≡◌, refl, sym, ap, subst, ◌∙◌}
 use mathlib.Core.Logic.{◌⊎◌, inl, inr, ⊎_elim}
-use mathlib.Core.Bool.{true, false}
+use mathlib.Core.Bool.{Bool, true, false, cond}
+use lib.Dec.{eqb}
 use mathlib.Core.List.{List, [], ◌∷◌}
 use mathlib.Core.Option.{Option, none, some}
-use Prim.Native.Nat.{ℕ, ◌+◌, ◌/◌, ◌%◌, ◌^◌, ◌≤◌, ◌<◌}
+use Prim.Native.Nat.{ℕ, zero, suc, ◌+◌, ◌/◌, ◌%◌, ◌^◌, ◌≤◌, ◌<◌}
 use native.Mathlib.Omega.{arith}
-use native.Mathlib.Decide.{ℕ_discrete}
-use lib.ListN.{length, set, length-set}
+use lib.ListN.{length, get_or, set, length-set}
 use lib.Seq.{get_or-set_same, get_or-set_other}
-use borrow.Author.Tests.{ne_eqb, eqb-true, eqb-false, lt-ltb}
+use borrow.Author.Tests.{ne_eqb, eqb-true, eqb-false}
 use Rattle.table.specs.Constants.{Op, END, NEW, LOCK, FORK, CHOICE, OTHER, CALL, MIRROR, code, most_forks, most_names}
 use Rattle.table.specs.Program.{Code, end, new, lock, fork, choice, call, mirror, names, locals, forks}
 use Rattle.table.specs.WellFormed.{In}
@@ -23,16 +23,16 @@ use Rattle.rules.proofs.Laws.Nest.{by_nest, by_bind}
 use Rattle.grid.specs.Rows.{Has, Bits}
 use Rattle.grid.proofs.Laws.Masks.{bits_zero, bits_or, bits_one, bits_map}
 use Rattle.table.specs.Laws.Fine.{Uses, Fine}
-use Rattle.pairs.specs.Walks.{Walk, held_by, byte_of, arg_of, holder_of, thread_of, nest_of, in_nest, with_root, root_of}
-use Rattle.pairs.specs.Walks.{SelvesTo, Selves, holder_under, start_walk, moved_walk, entered_walk, local_walk}
+use Rattle.pairs.specs.Walks.{byte_of, arg_of, level_of, in_nest, with_root, root_of}
+use Rattle.pairs.specs.Walks.{Selves, inside_lock, thread_level, start_walk, moved_walk, entered_walk, local_walk}
+use Rattle.pairs.specs.declared.walk.Level.{Level as Holding}
+use Rattle.pairs.specs.Walks.{Walk}
+use Rattle.pairs.specs.declared.walk.TheConstants.{SELVES}
 use Rattle.pairs.specs.Walks.{next_walk, NamesFit, Ready}
 use Rattle.pairs.proofs.Pending.{Alternative, other, Level, level, past, second_locals, second_forks, InScope}
+use Rattle.pairs.specs.Walks.{outermost}
 use Rattle.pairs.proofs.Pending.{SecondInScope, Scopes, Shows, Entry, SecondEntry, Entries, Left}
 use Rattle.pairs.proofs.Steps.{byte_at, first_byte, by_byte, Going, at_kind, place_there, few_levels, room}
-
--- a name that is below 16 is a holder
-pub held_name : (x : ℕ) → x < 16 → held_by x ≡ some x
-held_name x h = rw (lt-ltb x 16 h)
 
 module _ (k : ℕ) where
   -- the same facts, with counts written in another way
@@ -130,88 +130,73 @@ pub not_in_nest : (m z : ℕ) → in_nest m z ≡ false → ¬ Has m z
 not_in_nest m z e = eqb-false (m / 2 ^ z % 2) 1 e
 
 -- the place after a NEW or MIRROR, as the walk shows it
-shows_naming : {h t m : ℕ} {π : Place} (x z : ℕ) → Shows h t m π → Shows h t m (naming x z π)
-shows_naming x z k = record { holder = k.holder; thread = k.thread; low = k.low; nest = k.nest }
+shows_naming : {v : Holding} {π : Place} (x z : ℕ) → Shows v π → Shows v (naming x z π)
+shows_naming x z k = record { holder = k.holder; name = k.name; thread = k.thread; low = k.low; nest = k.nest }
 
 -- the place inside a LOCK on a name with the root z, as the walk shows it
-module _ {h t m : ℕ} {π : Place} (k : Shows h t m π) (z : ℕ) (low : z < 16) where
-  nest_more : Bits (with_root m z) (λ y. (y ≡ z) ⊎ In y π.nest)
+module _ {v : Holding} {π : Place} (k : Shows v π) (z : ℕ) (low : z < 16) where
+  nest_more : Bits (with_root v.nest z) (λ y. (y ≡ z) ⊎ In y π.nest)
   nest_more = bits_map (λ y. ⊎_elim (λ i. inr i) (λ e. inl e)) (λ y. ⊎_elim (λ e. inr e) (λ i. inl i))
       (bits_or k.nest (bits_one z low))
 
-  shows_lock : Shows (holder_under m h z) t (with_root m z) (under_lock z π)
-  shows_lock = by_nest (λ v. Shows (holder_under m h z) t (with_root m z) v) z π again first
+  pub shows_lock : Shows (inside_lock v z) (under_lock z π)
+  shows_lock = by_nest (λ p. Shows (inside_lock v z) p) z π again first
     where
-      again : In z π.nest → Shows (holder_under m h z) t (with_root m z) π
+      again : In z π.nest → Shows (inside_lock v z) π
       again i = record {
         holder = rw (k.nest.from z i) k.holder;
+        name = rw (k.nest.from z i) k.name;
         thread = k.thread;
         low = k.low;
         nest = bits_map (λ y. ⊎_elim (λ e. rw e i) (λ j. j)) (λ y j. inr j) nest_more;
       }
 
-      first : ¬ In z π.nest → Shows (holder_under m h z) t (with_root m z) (nested z π)
-      first n = record {
-        holder = rw (ne_eqb (m / 2 ^ z % 2) 1 (λ e. n (k.nest.to z e))) (sym (held_name z low));
-        thread = k.thread;
-        low = k.low;
-        nest = nest_more;
-      }
+      first : ¬ In z π.nest → Shows (inside_lock v z) (nested z π)
+      first n =
+          let e = ne_eqb (v.nest / 2 ^ z % 2) 1 (λ e. n (k.nest.to z e)) in
+          record { holder = rw e; name = rw e low; thread = k.thread; low = k.low; nest = nest_more }
 
 -- entries from the n-th on do not matter to n levels
-second_set : (hs ts ns : List ℕ) (n v q m i : ℕ) (u : Option Alternative) → i < n → SecondEntry hs ts ns i u
-    → SecondEntry (set hs n v) (set ts n q) (set ns n m) i u
-second_set hs ts ns n v q m i none l p = tt
-second_set hs ts ns n v q m i (some (other b κ)) l p = rw (
-  get_or-set_other hs n i v 0 (λ e. omega arith),
-  get_or-set_other ts n i q 0 (λ e. omega arith),
-  get_or-set_other ns n i m 0 (λ e. omega arith),
-) p
+second_set : (vs : List Holding) (n : ℕ) (v : Holding) (i : ℕ) (u : Option Alternative) → i < n → SecondEntry vs i u
+    → SecondEntry (set vs n v) i u
+second_set vs n v i none l p = tt
+second_set vs n v i (some (other b κ)) l p = rw (get_or-set_other vs n i v outermost (λ e. omega arith)) p
 
-entries_set : (hs ts ns : List ℕ) (n v q m : ℕ) (ls : List Level) → length ls ≤ n → Entries hs ts ns ls
-    → Entries (set hs n v) (set ts n q) (set ns n m) ls
-entries_set hs ts ns n v q m [] l p = tt
-entries_set hs ts ns n v q m (level c u π ∷ ls) l p = (
-  rw (
-    get_or-set_other hs n (length ls) v 0 (λ e. omega arith),
-    get_or-set_other ts n (length ls) q 0 (λ e. omega arith),
-    get_or-set_other ns n (length ls) m 0 (λ e. omega arith),
-  ) p.0,
-  second_set hs ts ns n v q m (length ls) u (omega arith) p.1,
-  entries_set hs ts ns n v q m ls (omega arith) p.2,
+entries_set : (vs : List Holding) (n : ℕ) (v : Holding) (ls : List Level) → length ls ≤ n → Entries vs ls
+    → Entries (set vs n v) ls
+entries_set vs n v [] l p = tt
+entries_set vs n v (level c u π ∷ ls) l p = (
+  rw (get_or-set_other vs n (length ls) v outermost (λ e. omega arith)) p.0,
+  second_set vs n v (length ls) u (omega arith) p.1,
+  entries_set vs n v ls (omega arith) p.2,
 )
 
--- a second alternative has the place that the numbers show
-abbrev SecondShows : ℕ → ℕ → ℕ → Option Alternative → Type 0
-SecondShows h t m none = Unit {0}
-SecondShows h t m (some (other b κ)) = Shows h t m κ
+-- a second alternative has the place that the level shows
+abbrev SecondShows : Holding → Option Alternative → Type 0
+SecondShows v none = Unit {0}
+SecondShows v (some (other b κ)) = Shows v κ
 
 -- one level more
-entries_open : (hs ts ns : List ℕ) (n v q m : ℕ) (c : Code) (u : Option Alternative) (κ : Place) (ls : List Level)
-    → length ls ≡ n → n < length hs → n < length ts → n < length ns
-    → Shows v q m κ → SecondShows v q m u → Entries hs ts ns ls
-    → Entries (set hs n v) (set ts n q) (set ns n m) (level c u κ ∷ ls)
-entries_open hs ts ns n v q m c u κ ls e lh lt ln k k' p = (
-  rw (e, get_or-set_same hs n v 0 lh, get_or-set_same ts n q 0 lt, get_or-set_same ns n m 0 ln) k,
+entries_open : (vs : List Holding) (n : ℕ) (v : Holding) (c : Code) (u : Option Alternative) (κ : Place)
+    (ls : List Level) → length ls ≡ n → n < length vs → Shows v κ → SecondShows v u → Entries vs ls
+    → Entries (set vs n v) (level c u κ ∷ ls)
+entries_open vs n v c u κ ls e lh k k' p = (
+  rw (e, get_or-set_same vs n v outermost lh) k,
   second u k',
-  entries_set hs ts ns n v q m ls (omega arith) p,
+  entries_set vs n v ls (omega arith) p,
 )
   where
-    second : (u : Option Alternative) → SecondShows v q m u
-        → SecondEntry (set hs n v) (set ts n q) (set ns n m) (length ls) u
+    second : (u : Option Alternative) → SecondShows v u → SecondEntry (set vs n v) (length ls) u
     second none h = tt
-    second (some (other b κ)) h =
-        rw (e, get_or-set_same hs n v 0 lh, get_or-set_same ts n q 0 lt, get_or-set_same ns n m 0 ln) h
+    second (some (other b κ)) h = rw (e, get_or-set_same vs n v outermost lh) h
 
 -- the walk's arrays tell of the levels, in the body of a routine with k parameters
 pub record Tracked (k : ℕ) (w : Walk) (ls : List Level) : Type 0 where
   pub made : ℕ
   pub last : w.last ≡ k + made
   pub scopes : Scopes k w.last w.roots made w.forks ls
-  pub entries : Entries w.holders w.threads w.nests ls
-  pub long_holders : length w.holders ≡ 17
-  pub long_threads : length w.threads ≡ 17
-  pub long_nests : length w.nests ≡ 17
+  pub entries : Entries w.levels ls
+  pub long_levels : length w.levels ≡ 17
   pub long_roots : length w.roots ≡ 16
 
 module _ (k : ℕ) (w : Walk) where
@@ -236,46 +221,40 @@ module _ (ks s t : List ℕ) (k : ℕ) (w : Walk) where
   -- the entry of the innermost level
   pub top_entry : (c : Code) (u : Option Alternative) (π : Place) (ls : List Level)
       → Left ks s t w.at w.top (level c u π ∷ ls) → Tracked k w (level c u π ∷ ls)
-      → Shows (holder_of w) (thread_of w) (nest_of w) π
+      → Shows (level_of w) π
   top_entry c u π ls p q =
       let n : length ls ≡ w.top = let z = p.count in omega arith in
-      subst (λ (v : ℕ). Entry w.holders w.threads w.nests v π) n q.entries.0
+      subst (λ (v : ℕ). Entry w.levels v π) n q.entries.0
 
   -- past an item that opens no level and gives no name
   moves : (at top : ℕ) {ls : List Level} (ms : List Level) (q : Tracked k w ls)
-      → Scopes k w.last w.roots q.made w.forks ms → Entries w.holders w.threads w.nests ms
+      → Scopes k w.last w.roots q.made w.forks ms → Entries w.levels ms
       → Tracked k (moved_walk w at top) ms
   moves at top ms q a b = record {
     made = q.made;
     last = q.last;
     scopes = a;
     entries = b;
-    long_holders = q.long_holders;
-    long_threads = q.long_threads;
-    long_nests = q.long_nests;
+    long_levels = q.long_levels;
     long_roots = q.long_roots;
   }
 
   -- past an item that opens a level, at the place κ
-  opens : (at j v q m : ℕ) (c d : Code) (z u : Option Alternative) (π κ : Place) (ls : List Level) {e : Code}
+  opens : (at j : ℕ) (v : Holding) (c d : Code) (z u : Option Alternative) (π κ : Place) (ls : List Level) {e : Code}
       → Left ks s t w.at w.top (level e u π ∷ ls) → (o : Tracked k w (level e u π ∷ ls)) → w.top < 16
       → Scopes k w.last w.roots o.made j (level c z κ ∷ level d u π ∷ ls)
-      → Shows v q m κ → SecondShows v q m z
-      → Tracked k (entered_walk (moved_walk w at (w.top + 1)) j v q m) (level c z κ ∷ level d u π ∷ ls)
-  opens at j v q m c d z u π κ ls p o r a y y' =
+      → Shows v κ → SecondShows v z
+      → Tracked k (entered_walk (moved_walk w at (w.top + 1)) j v) (level c z κ ∷ level d u π ∷ ls)
+  opens at j v c d z u π κ ls p o r a y y' =
       let n = p.count in
-      let lh = o.long_holders in
-      let lt = o.long_threads in
-      let ln = o.long_nests in
+      let l = o.long_levels in
       record {
         made = o.made;
         last = o.last;
         scopes = a;
-        entries = entries_open w.holders w.threads w.nests (w.top + 1) v q m c z κ (level d u π ∷ ls)
-            (omega arith) (omega arith) (omega arith) (omega arith) y y' o.entries;
-        long_holders = length-set w.holders (w.top + 1) v ∙ lh;
-        long_threads = length-set w.threads (w.top + 1) q ∙ lt;
-        long_nests = length-set w.nests (w.top + 1) m ∙ ln;
+        entries = entries_open w.levels (w.top + 1) v c z κ (level d u π ∷ ls) (omega arith) (omega arith) y y'
+            o.entries;
+        long_levels = length-set w.levels (w.top + 1) v ∙ l;
         long_roots = o.long_roots;
       }
 
@@ -298,9 +277,7 @@ module _ (ks s t : List ℕ) (k : ℕ) (w : Walk) where
           scopes_at k _ _ ls (omega arith) (omega arith) (scopes_kept k w.last w.roots v _ _ ls o.scopes.2),
         );
         entries = (shows_naming x z o.entries.0, o.entries.1, o.entries.2);
-        long_holders = o.long_holders;
-        long_threads = o.long_threads;
-        long_nests = o.long_nests;
+        long_levels = o.long_levels;
         long_roots = length-set w.roots (w.last + 1) v ∙ l;
       }
 
@@ -335,8 +312,8 @@ module _ (ks s t : List ℕ) (k : ℕ) (w : Walk) where
       let r = room ks s t w.at w.top _ p g LOCK e in
       let z : root_of w.roots x ≡ π.roots x = q.roots x q.uses.0 in
       rw (by_byte ks s w 2 e)
-      (rw (a, z) (opens (w.at + 2) w.forks (holder_under (nest_of w) (holder_of w) (π.roots x)) (thread_of w)
-      (with_root (nest_of w) (π.roots x)) c d none u π (under_lock (π.roots x) π) ls p o r.1 (
+      (rw (a, z) (opens (w.at + 2) w.forks (inside_lock (level_of w) (π.roots x)) c d none u π
+      (under_lock (π.roots x) π) ls p o r.1 (
         named_part k q (lock_roots (π.roots x) π) q.numbered.0 q.uses.1,
         tt,
         (
@@ -355,7 +332,7 @@ module _ (ks s t : List ℕ) (k : ℕ) (w : Walk) where
       let m : forked i ≡ label_of (w.forks + 1) =
       rw n.0 (sym (label_of_number (forked (w.forks + 1)) (omega arith, omega arith))) in
       rw (by_byte ks s w 3 e)
-      (opens (w.at + 1) (w.forks + 1) _ (w.forks + 1) _ c d none u π (under_fork i π) ls p o r (
+      (opens (w.at + 1) (w.forks + 1) (thread_level (w.forks + 1)) c d none u π (under_fork i π) ls p o r (
         named_part k q refl n.1 q.uses.0,
         tt,
         (
@@ -364,7 +341,7 @@ module _ (ks s t : List ℕ) (k : ℕ) (w : Walk) where
           scopes_at k _ _ ls (omega arith) (omega arith) o.scopes.2,
         ),
       )
-      (record { holder = refl; thread = m; low = omega arith; nest = bits_zero _ (λ y i. i) }) tt)
+      (record { holder = refl; name = tt; thread = m; low = omega arith; nest = bits_zero _ (λ y i. i) }) tt)
   track (level (choice a b c) u π ∷ ls) p g o =
       let e : byte_of s w ≡ 4 = first_byte s w.at _ _ p.content in
       let q = o.scopes.0 in
@@ -372,7 +349,7 @@ module _ (ks s t : List ℕ) (k : ℕ) (w : Walk) where
       let r = room ks s t w.at w.top _ p g CHOICE e in
       let y = top_entry _ u π ls p o in
       rw (by_byte ks s w 4 e)
-      (opens (w.at + 1) w.forks (holder_of w) (thread_of w) (nest_of w) a c (some (other b π)) u π π ls p o r (
+      (opens (w.at + 1) w.forks (level_of w) a c (some (other b π)) u π π ls p o r (
         named_part k q refl n.0 q.uses.0,
         named_part k q refl n.1 q.uses.1,
         (
@@ -447,10 +424,29 @@ module _ (ks s t : List ℕ) (k : ℕ) (w : Walk) where
     names = names_met ls p o;
   }
 
+-- each name is its own root at the start
+abbrev counts? : ℕ → List ℕ → Bool
+counts? n [] = true
+counts? n (x ∷ xs) = cond (eqb x n) (counts? (suc n) xs) false
+
+count_first : (n x : ℕ) (xs : List ℕ) → ((i : ℕ) → counts? (suc n) xs ≡ true → i < length xs → get_or xs i 0 ≡ suc n + i)
+    → (v : Bool) → eqb x n ≡ v → (i : ℕ) → cond v (counts? (suc n) xs) false ≡ true → i < suc (length xs)
+    → get_or (x ∷ xs) i 0 ≡ n + i
+count_first n x xs more false f i e l = absurd (let z : ◌≡◌ {A = ℕ} 0 1 = cc in omega arith)
+count_first n x xs more true f zero e l = let z = eqb-true x n f in omega arith
+count_first n x xs more true f (suc i) e l = let z = more i e (omega arith) in omega arith
+
+count_at : (n : ℕ) (xs : List ℕ) (i : ℕ) → counts? n xs ≡ true → i < length xs → get_or xs i 0 ≡ n + i
+count_at n [] i e l = absurd (omega arith)
+count_at n (x ∷ xs) i e l = count_first n x xs (λ j. count_at (suc n) xs j) (eqb x n) refl i e l
+
+selves_are : Selves SELVES
+selves_are = (refl, λ x l. let z = count_at 0 SELVES x refl l in omega arith)
+
 -- the arrays at the start of a body
-pub tracks : (ks : List ℕ) (at k : ℕ) (rs : List ℕ) (c : Code) → Fine ks k c → Selves rs
-    → Tracked k (start_walk at k rs) (level c none at_head ∷ [])
-tracks ks at k rs c f selves = record {
+pub tracks : (ks : List ℕ) (at k : ℕ) (c : Code) → Fine ks k c
+    → Tracked k (start_walk at k) (level c none at_head ∷ [])
+tracks ks at k c f = record {
   made = 0;
   last = omega arith;
   scopes = (
@@ -459,29 +455,17 @@ tracks ks at k rs c f selves = record {
       scope = names k;
       uses = f.uses;
       low = names_low k;
-      roots = λ x i. let h = names_low k x i in let z = f.few_names in selves.1 x (omega arith);
+      roots = λ x i. let h = names_low k x i in let z = f.few_names in selves_are.1 x (omega arith);
       low_roots = names_low k;
     },
     tt,
     (let z = f.few_names in omega arith, let z = f.few_forks in omega arith),
   );
   entries = (
-    record { holder = refl; thread = refl; low = omega arith; nest = bits_zero _ (λ y i. i) },
+    record { holder = refl; name = omega arith; thread = refl; low = omega arith; nest = bits_zero _ (λ y i. i) },
     tt,
     tt,
   );
-  long_holders = refl;
-  long_threads = refl;
-  long_nests = refl;
-  long_roots = selves.0;
+  long_levels = refl;
+  long_roots = refl;
 }
-
--- one name more that is its own root
-pub one_more_self : (rs : List ℕ) (x : ℕ) → x < 16 → SelvesTo rs x → SelvesTo (set rs x x) (x + 1)
-one_more_self rs x l p = (
-  length-set rs x x ∙ p.0,
-  λ y h. elim (ℕ_discrete y x) [
-    | yes e ↦ rw e (get_or-set_same rs x x 0 (let z = p.0 in omega arith))
-    | no n ↦ get_or-set_other rs x y x 0 n ∙ p.1 y (omega arith)
-  ],
-)

@@ -1,14 +1,15 @@
 -- What a grid gains: the pairs that items record, and the rows of the called routines as they stand in the buffer.
 use Rattle.std.specs.Prelude.{◌≡◌, ◌⊎◌, List, map, ℕ, ◌+◌, ◌*◌, ◌^◌, ◌≤◌, ◌<◌, length, get_or, take, drop}
 use Rattle.std.proofs.Math.Option.{Option, some}
-use Rattle.table.specs.Constants.{most_params, most_forks, most_names, row_names, row_bytes}
+use Rattle.table.specs.Constants.{most_params, most_forks, most_open, most_names, row_names, row_bytes}
 use Rattle.rules.specs.Label.{Label, placed}
 use Rattle.rules.specs.Number.{label_of, labels}
 use Rattle.rules.specs.Model.{Kept, renamed}
 use Rattle.rules.specs.Derived.{Pairs}
-use Rattle.rows.specs.Bytes.{Labelled}
+use Rattle.rows.specs.Bytes.{Labelled, RowBits}
 use Rattle.grid.specs.Grid.{In, Pair, Small, AllKept}
-use Rattle.pairs.specs.Walks.{root_of}
+use Rattle.pairs.specs.Walks.{Walk, root_of, held_by, LowHolder, arg_of, level_of}
+use Rattle.pairs.specs.declared.calls.Call.{Call}
 
 -- the pair from the holder h to the holder k in thread θ
 abbrev pub HoldersGive : Option ℕ → Option ℕ → Label → ℕ → ℕ → Label → Type 0
@@ -54,14 +55,26 @@ pub record Placed (cell t m : ℕ) : Type 0 where
   pub only : (l : Label) → In m l → (k : Label) × Labelled cell k × (l ≡ placed (label_of t) k)
   pub all : (k : Label) → Labelled cell k → In m (placed (label_of t) k)
 
--- the CALL at the offset can be recorded in the thread with the number t
-pub record CallReady (rs ks s rows : List ℕ) (at t : ℕ) : Type 0 where
-  pub there : at + 2 + get_or ks (get_or s (at + 1) 0) 0 ≤ length s
-  pub routine : get_or s (at + 1) 0 < length ks
-  pub params : get_or ks (get_or s (at + 1) 0) 0 ≤ most_params
-  pub names : LowAt rs s (at + 2) (get_or ks (get_or s (at + 1) 0) 0)
-  pub thread : t ≤ most_forks
+-- what the CALL at the place of the walk records
+abbrev pub CallPairs : List ℕ → List ℕ → List ℕ → Walk → ℕ → ℕ → Label → Type 0
+CallPairs ks s rows w =
+    CallGives (RowBits rows) (arg_of s w) (roots_at w.roots s (w.at + 2) (get_or ks (arg_of s w) 0))
+    (label_of (level_of w).thread) (held_by (level_of w).holder)
+
+-- it can be recorded
+pub record CallReady (ks s rows : List ℕ) (w : Walk) : Type 0 where
+  pub there : w.at + 2 + get_or ks (arg_of s w) 0 ≤ length s
+  pub routine : arg_of s w < length ks
+  pub params : get_or ks (arg_of s w) 0 ≤ most_params
+  pub names : LowAt w.roots s (w.at + 2) (get_or ks (arg_of s w) 0)
+  pub few : w.top ≤ most_open
+  pub holder : LowHolder (level_of w).holder
+  pub thread : (level_of w).thread ≤ most_forks
   pub long : row_bytes * length ks ≤ length rows
+
+-- the roots of the names of a call
+abbrev pub roots_of : Call → List ℕ
+roots_of c = map (root_of c.levels.now.roots) c.names.now
 
 -- what one of the first n gives
 abbrev pub Below : (ℕ → ℕ → ℕ → Label → Type 0) → ℕ → ℕ → ℕ → Label → Type 0
@@ -80,10 +93,10 @@ LineGives rows first xs θ h p n = Below (CellGives rows first xs θ h p) n
 abbrev pub RowGives : List ℕ → ℕ → List ℕ → Label → Option ℕ → ℕ → ℕ → ℕ → ℕ → Label → Type 0
 RowGives rows first xs θ h m n = Below (λ i. LineGives rows (first + row_names * i) xs θ h (renamed h xs i) m) n
 
--- n cells of a row can be recorded at a call
-pub record RowReady (rs s : List ℕ) (at k : ℕ) (rows : List ℕ) (first n t : ℕ) : Type 0 where
-  pub there : at + k ≤ length s
-  pub params : k ≤ most_params
-  pub names : LowAt rs s at k
-  pub long : first + n ≤ length rows
-  pub thread : t ≤ most_forks
+-- n cells of the rows, from an offset on, can be recorded at a call
+pub record RowReady (c : Call) (first n : ℕ) : Type 0 where
+  pub params : length c.names.now ≤ most_params
+  pub names : Low c.names.now × Low (roots_of c)
+  pub holder : LowHolder c.here.holder
+  pub thread : c.here.thread ≤ most_forks
+  pub long : first + n ≤ length c.rows.now

@@ -1,40 +1,45 @@
 -- The walk over a body, item by item.
-use Rattle.std.specs.Prelude.{◌≡◌, Bool, true, false, cond, List, ℕ, ◌+◌, ◌-◌, ◌*◌, ◌/◌, ◌%◌, ◌^◌, ◌≤◌, ◌<◌, eqb, ltb}
-use Rattle.std.specs.Prelude.{length, get_or, set, replicate}
-use Rattle.std.proofs.Math.Option.{Option, none, some}
+use Rattle.std.specs.Prelude.{◌≡◌, Bool, true, false, cond, List, ℕ, ◌+◌, ◌-◌, ◌*◌, ◌/◌, ◌%◌, ◌^◌, ◌≤◌, ◌<◌, eqb}
+use Rattle.std.specs.Prelude.{Option, None, Some, IfSome, length, get_or, set, replicate}
+use Rattle.std.proofs.Math.Option as rules
 use Rattle.std.specs.Int.Bits.{bit_or}
 use Rattle.table.specs.Constants.{Op, END, NEW, LOCK, FORK, CHOICE, OTHER, CALL, MIRROR, code, most_open}
 use Rattle.table.specs.Constants.{most_forks, most_names}
+pub use Rattle.table.specs.Laws.Passing.{past_by, past_item, Passable}
+use Rattle.pairs.specs.declared.walk.Level.{Level}
 use Rattle.pairs.specs.declared.walk.Place.{Place}
+use Rattle.pairs.specs.declared.walk.Levels.{Levels}
+use Rattle.pairs.specs.declared.walk.TheConstants.{SELVES}
 
--- a place of a body: the offset, how many FORK stand before it, the last name that the routine has so far, the
--- innermost open level, for each open level the holder, the thread and the nest, and for each name its root
+-- a place of a body with what holds there: the offset, how many FORK stand before it, the last name, the innermost open
+-- level, what holds at each open level, and the root of each name
 pub record Walk : Type 0 where
   pub at : ℕ
   pub forks : ℕ
   pub last : ℕ
   pub top : ℕ
-  pub holders : List ℕ
-  pub threads : List ℕ
-  pub nests : List ℕ
+  pub levels : List Level
   pub roots : List ℕ
 
--- the place and the four arrays, as one
-abbrev pub walk_of : Place → List ℕ → List ℕ → List ℕ → List ℕ → Walk
-walk_of p hs ts ns rs = record {
+-- the walk at a place, with what holds at its levels
+abbrev pub walk_of : Place → Levels → Walk
+walk_of p v = record {
   at = p.at;
   forks = p.forks;
   last = p.last;
   top = p.top;
-  holders = hs;
-  threads = ts;
-  nests = ns;
-  roots = rs;
+  levels = v.levels;
+  roots = v.roots;
 }
 
--- the holder that a byte stands for: a name, or nothing
-abbrev pub held_by : ℕ → Option ℕ
-held_by n = cond (ltb n most_names) (some n) none
+-- the holder, if there is one, in the rules' terms
+abbrev pub held_by : Option ℕ → rules.Option ℕ
+held_by None = rules.none
+held_by (Some x) = rules.some x
+
+-- the holder, if there is one, is a name
+abbrev pub LowHolder : Option ℕ → Type 0
+LowHolder h = IfSome h (λ x. x < most_names)
 
 -- the byte at the place
 abbrev pub byte_of : List ℕ → Walk → ℕ
@@ -44,17 +49,21 @@ byte_of s w = get_or s w.at 0
 abbrev pub arg_of : List ℕ → Walk → ℕ
 arg_of s w = get_or s (w.at + 1) 0
 
--- the holder at the place
-abbrev pub holder_of : Walk → ℕ
-holder_of w = get_or w.holders w.top 0
+-- what holds where the thread with the number n starts: there is no holder, and the nest is empty
+abbrev pub thread_level : ℕ → Level
+thread_level n = record { holder = None; thread = n; nest = 0 }
 
--- the thread of the place
-abbrev pub thread_of : Walk → ℕ
-thread_of w = get_or w.threads w.top 0
+-- what holds at the start of a body: the holder is name 0, that of the caller
+abbrev pub outermost : Level
+outermost = record { holder = Some 0; thread = 0; nest = 0 }
 
--- the nest of the place, as a mask of roots
-abbrev pub nest_of : Walk → ℕ
-nest_of w = get_or w.nests w.top 0
+-- what holds at level n, of those open
+abbrev pub level_at : List Level → ℕ → Level
+level_at vs n = get_or vs n outermost
+
+-- what holds at the place
+abbrev pub level_of : Walk → Level
+level_of w = level_at w.levels w.top
 
 -- the root z is in the nest m
 abbrev pub in_nest : ℕ → ℕ → Bool
@@ -80,88 +89,42 @@ SelvesTo rs n = (length rs ≡ most_names) × ((x : ℕ) → x < n → root_of r
 abbrev pub Selves : List ℕ → Type 0
 Selves rs = SelvesTo rs most_names
 
--- the holder inside a LOCK on a name with the root z, where h is the holder outside and m the nest
-abbrev pub holder_under : ℕ → ℕ → ℕ → ℕ
-holder_under m h z = cond (in_nest m z) h z
-
--- the holder inside the item with code b at an offset, a FORK excepted, where h is the one outside it and m the nest
-abbrev pub holder_inside : List ℕ → List ℕ → ℕ → ℕ → ℕ → ℕ → ℕ
-holder_inside rs s at b h m =
-    cond (eqb b (code LOCK)) (holder_under m h (root_of rs (get_or s (at + 1) 0))) h
-
--- the walk at the start of the body of a routine with k parameters
-abbrev pub start_walk : ℕ → ℕ → List ℕ → Walk
-start_walk at k rs = record {
-  at = at;
-  forks = 0;
-  last = k;
-  top = 0;
-  holders = replicate (most_open + 1) 0;
-  threads = replicate (most_open + 1) 0;
-  nests = replicate (most_open + 1) 0;
-  roots = rs;
+-- what holds inside a LOCK on a name with the root z, where v holds outside: the holder is that of v, where the root is in
+-- the nest already, else the root
+abbrev pub inside_lock : Level → ℕ → Level
+inside_lock v z = record {
+  holder = cond (in_nest v.nest z) v.holder (Some z);
+  thread = v.thread;
+  nest = with_root v.nest z;
 }
+
+-- the place at the start of the body of a routine with k parameters
+abbrev pub start_place : ℕ → ℕ → Place
+start_place at k = record { at = at; forks = 0; last = k; top = 0 }
+
+-- what holds at the start of a body
+abbrev pub start_levels : Levels
+start_levels = record { levels = set (replicate (most_open + 1) (thread_level 0)) 0 outermost; roots = SELVES }
+
+-- the walk there
+abbrev pub start_walk : ℕ → ℕ → Walk
+start_walk at k = walk_of (start_place at k) start_levels
 
 -- the walk at another offset, with another innermost level
 abbrev pub moved_walk : Walk → ℕ → ℕ → Walk
-moved_walk w at top = record {
-  at = at;
-  forks = w.forks;
-  last = w.last;
-  top = top;
-  holders = w.holders;
-  threads = w.threads;
-  nests = w.nests;
-  roots = w.roots;
-}
+moved_walk w at top = record w { at = at; top = top }
 
--- the walk after so many FORK, with the holder, the thread and the nest of its innermost level
-abbrev pub entered_walk : Walk → ℕ → ℕ → ℕ → ℕ → Walk
-entered_walk w forks holder thread nest = record {
-  at = w.at;
-  forks = forks;
-  last = w.last;
-  top = w.top;
-  holders = set w.holders w.top holder;
-  threads = set w.threads w.top thread;
-  nests = set w.nests w.top nest;
-  roots = w.roots;
-}
+-- the walk after so many FORK, where v holds at the innermost level
+abbrev pub entered_walk : Walk → ℕ → Level → Walk
+entered_walk w forks v = record w { forks = forks; levels = set w.levels w.top v }
+
+-- the walk with one level more, where v holds
+abbrev pub opened_walk : Walk → Level → Walk
+opened_walk w v = entered_walk (moved_walk w w.at (w.top + 1)) w.forks v
 
 -- the walk with one local more, and its root
 abbrev pub local_walk : Walk → ℕ → Walk
-local_walk w root = record {
-  at = w.at;
-  forks = w.forks;
-  last = w.last + 1;
-  top = w.top;
-  holders = w.holders;
-  threads = w.threads;
-  nests = w.nests;
-  roots = set w.roots (w.last + 1) root;
-}
-
--- for all roots: the place q with its arrays is the walk entered from the place p with its arrays
-abbrev pub Enters :
-    Place → List ℕ → List ℕ → List ℕ → ℕ → ℕ → ℕ → ℕ → Place → List ℕ → List ℕ → List ℕ → Type 0
-Enters p hs ts ns forks holder thread nest q hs' ts' ns' =
-    (rs : List ℕ) → walk_of q hs' ts' ns' rs ≡ entered_walk (walk_of p hs ts ns rs) forks holder thread nest
-
--- for all entries of levels: the place q with the roots rs' is the walk from p, with rs, that has one local more
-abbrev pub AddsLocal : Place → List ℕ → ℕ → Place → List ℕ → Type 0
-AddsLocal p rs root q rs' = (hs ts ns : List ℕ) → walk_of q hs ts ns rs' ≡ local_walk (walk_of p hs ts ns rs) root
-
--- the offset past an item whose code is the byte b
-abbrev pub past_by : List ℕ → List ℕ → ℕ → ℕ → ℕ
-past_by ks s at b =
-    cond (eqb b (code LOCK)) (at + 2)
-    (cond (eqb b (code MIRROR)) (at + 2)
-    (cond (eqb b (code CALL)) (at + 2 + get_or ks (get_or s (at + 1) 0) 0)
-    (at + 1)))
-
--- the offset past the item at an offset
-abbrev pub past_item : List ℕ → List ℕ → ℕ → ℕ
-past_item ks s at = past_by ks s at (get_or s at 0)
+local_walk w root = record w { last = w.last + 1; roots = set w.roots (w.last + 1) root }
 
 -- the innermost open level past it
 abbrev pub top_by : ℕ → ℕ → ℕ
@@ -180,10 +143,9 @@ passed_by ks s w b = moved_walk w (past_by ks s w.at b) (top_by w.top b)
 abbrev pub walk_by : List ℕ → List ℕ → Walk → ℕ → Walk
 walk_by ks s w b =
     cond (eqb b (code LOCK)) (entered_walk (passed_by ks s w b) w.forks
-    (holder_under (nest_of w) (holder_of w) (root_of w.roots (arg_of s w))) (thread_of w)
-    (with_root (nest_of w) (root_of w.roots (arg_of s w))))
-    (cond (eqb b (code FORK)) (entered_walk (passed_by ks s w b) (w.forks + 1) most_names (w.forks + 1) 0)
-    (cond (eqb b (code CHOICE)) (entered_walk (passed_by ks s w b) w.forks (holder_of w) (thread_of w) (nest_of w))
+    (inside_lock (level_of w) (root_of w.roots (arg_of s w))))
+    (cond (eqb b (code FORK)) (entered_walk (passed_by ks s w b) (w.forks + 1) (thread_level (w.forks + 1)))
+    (cond (eqb b (code CHOICE)) (entered_walk (passed_by ks s w b) w.forks (level_of w))
     (cond (eqb b (code NEW)) (local_walk (passed_by ks s w b) (w.last + 1))
     (cond (eqb b (code MIRROR)) (local_walk (passed_by ks s w b) (root_of w.roots (arg_of s w)))
     (passed_by ks s w b)))))
@@ -196,15 +158,6 @@ next_walk ks s w = walk_by ks s w (byte_of s w)
 abbrev pub IsOver : ℕ → ℕ → Bool → Type 0
 IsOver b top true = (b ≡ code END) × (top ≡ 0)
 IsOver b top false = b ≡ code END → 1 ≤ top
-
--- the item at the offset can be passed
-pub record Passable (ks s : List ℕ) (at : ℕ) : Type 0 where
-  pub here : at < length s
-  pub routine : get_or s at 0 ≡ code CALL → (at + 1 < length s) × (get_or s (at + 1) 0 < length ks)
-
--- where the item with code b is a LOCK, its name is there, and has a root
-abbrev pub LockReady : List ℕ → List ℕ → ℕ → ℕ → Type 0
-LockReady rs s at b = b ≡ code LOCK → (at + 1 < length s) × LowRoot rs (get_or s (at + 1) 0)
 
 -- an item with code b can stand where top is the innermost open level
 pub record LevelReady (b top : ℕ) : Type 0 where
@@ -233,12 +186,6 @@ NamesFit s w CHOICE = Unit {0}
 NamesFit s w OTHER = Unit {0}
 NamesFit s w CALL = Unit {0}
 NamesFit s w MIRROR = (arg_of s w < most_names) × (w.last + 1 < most_names)
-
--- what the walk says of its place: the holder inside the item there, the thread and the nest
-pub record Given (s : List ℕ) (w : Walk) (inside t m : ℕ) : Type 0 where
-  pub holder : inside ≡ holder_inside w.roots s w.at (byte_of s w) (holder_of w) (nest_of w)
-  pub thread : t ≡ thread_of w
-  pub nest : m ≡ nest_of w
 
 -- the walk can pass the item at its place
 pub record Ready (ks s : List ℕ) (w : Walk) : Type 0 where

@@ -14,7 +14,8 @@ pub mod walk;
 use calls::{called, locked};
 use grid::Grid;
 use table::limits::{CALL, END, LOCK};
-use walk::{LEVELS, Place, holder_inside, level, over, past, selves, step};
+use table::sections::Sections;
+use walk::{Levels, Place, over, top_past};
 
 // What scanning a body gives: the offset after it, and the routines that its calls name, as bits.
 #[derive(Clone, Copy)]
@@ -28,81 +29,60 @@ fn with_call(calls: u64, q: u8) -> u64
     requires { q < most_routines }
     ensures { Bits result (λ j. Has calls j ⊎ (j ≡ q)) }
 {
-    calls | (1 << (q as u64))
+    calls | (1 << u64::from(q))
 }
 
 // Scans the body at `at`.
-pub fn scan(ks: &[u8], s: &[u8], at: usize) -> Scanned
-    requires { ((k : ℕ) × IsBody ks.now k s.now at) × (length ks.now ≤ most_routines) }
-    ensures { Scans ks.now s.now at result.next result.calls }
+pub fn scan(t: &Sections<'_>, at: usize) -> Scanned
+    requires { ((k : ℕ) × IsBody t.now.counts.now k t.now.bodies.now at) × (length t.now.counts.now ≤ most_routines) }
+    ensures { Scans t.now.counts.now t.now.bodies.now at result.next result.calls }
 {
+    let s = t.bodies;
     let mut i = at;
     let mut top = 0;
     let mut calls = 0u64;
     loop {
         let b = s[i];
         if over(b, top) {
-            return Scanned {
-                next: i + 1,
-                calls: calls,
-            };
+            return Scanned { next: i + 1, calls };
         }
         if b == CALL {
             calls = with_call(calls, s[i + 1]);
         }
-        i = past(ks, s, i);
-        top = level(b, top);
+        i = t.past(i);
+        top = top_past(b, top);
     }
 }
 
 // The grid g with the pairs that the body at `at`, of a routine with k parameters, records, where `rows` has the rows
 // of the routines.
-pub fn recorded(mut g: Grid, ks: &[u8], k: u8, s: &[u8], at: usize, rows: &[u8]) -> Grid
-    requires { IsBody ks.now k s.now at × (row_bytes * length ks.now ≤ length rows.now) × Small g }
-    ensures { Records ks.now k s.now at rows.now g result }
+pub fn recorded(mut g: Grid, t: &Sections<'_>, k: u8, at: usize, rows: &[u8]) -> Grid
+    requires { IsBody t.now.counts.now k t.now.bodies.now at
+        × (row_bytes * length t.now.counts.now ≤ length rows.now) × Small g }
+    ensures { Records t.now.counts.now k t.now.bodies.now at rows.now g result }
 {
-    let mut holders = [0u8; LEVELS];
-    let mut threads = [0u8; LEVELS];
-    let mut nests = [0u16; LEVELS];
-    let mut roots = selves();
-    let mut p = Place {
-        at: at,
-        forks: 0,
-        last: k,
-        top: 0,
-    };
+    let s = t.bodies;
+    let mut p = Place::new(at, k);
+    let mut v = Levels::new();
     loop {
-        let i = p.at;
-        let n = p.top;
-        let b = s[i];
+        let b = s[p.at];
+        // END is the most frequent code, and needs nothing of the level: it is asked for first, for speed.
         if b == END {
-            if n == 0 {
+            if p.top == 0 {
                 return g;
             }
-            p.at = i + 1;
-            p.top = n - 1;
+            p.at += 1;
+            p.top -= 1;
+        } else if b == CALL {
+            called(&mut g, t, &p, &v, rows);
+            p.at = t.past(p.at);
         } else {
-            let h = holders[n];
-            let t = threads[n];
-            let m = nests[n];
-            let inside = holder_inside(&roots, s, i, b, h, m);
+            let here = v.at(p.top);
+            v.step(&mut p, t, b);
             if b == LOCK {
-                locked(&mut g, h, inside, t);
-            } else if b == CALL {
-                called(&mut g, &roots, ks, s, rows, i, h, t);
+                let inside = v.at(p.top);
+                locked(&mut g, here.holder, inside.holder, here.thread);
             }
-            p = step(
-                ks,
-                s,
-                p,
-                inside,
-                t,
-                m,
-                &mut holders,
-                &mut threads,
-                &mut nests,
-                &mut roots,
-            );
         }
     }
 }

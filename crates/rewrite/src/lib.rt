@@ -1,194 +1,150 @@
 // One body, written as in the canonical table: mirrors resolved and left out, locals and calls renumbered.
 #![tactic(auto)]
 
-ghost use Rattle.std.specs.Prelude.{◌+◌, ◌<◌, ◌≤◌, length, get_or};
+ghost use Rattle.std.specs.Prelude.{◌≡◌, ◌+◌, ◌<◌, ◌≤◌, length, get_or};
 ghost use Rattle.table.specs.Constants.{most_names, most_bytes};
-ghost use Rattle.append.specs.Appends.{Appends};
-ghost use Rattle.order.specs.Items.{making, locking};
+ghost use Rattle.append.specs.Puts.{Puts};
+ghost use Rattle.order.specs.Items.{mark, making, locking};
 ghost use Rattle.order.specs.Standing.{NameAt, CallAt, call_here, item_at, SomeItem};
-ghost use Rattle.rewrite.specs.Writing.{NamesAt, new_names, Fits, Passed, PassedAs, MarkPassed, MirrorPassed};
-ghost use Rattle.rewrite.specs.Writing.{BodyReady, BodyWritten};
+ghost use Rattle.rewrite.specs.Writing.{NamesFit, new_names, itself16, Fits, Passed, PassedAs};
+ghost use Rattle.rewrite.specs.Writing.{MirrorPassed, BodyReady, BodyWritten};
 
-use append::put_byte;
+use append::Text;
 use table::limits::{CALL, LOCK, MIRROR, MOST_NAMES, NEW};
-use table::scope::size;
+use table::sections::Sections;
 
-// A place of a body: the offset, the next name and the next new name, and the place in the text.
+// A place of a body: the offset, `local`, the next name, `next`, the next new name, and the new name of each name so far.
+// There is no heap: the new names lie in a fixed array, in use up to the next name.
 #[derive(Clone, Copy)]
 pub struct Spot {
     pub at: usize,
-    pub old: usize,
+    pub local: usize,
     pub next: u8,
-    pub out: usize,
+    pub names: [u8; MOST_NAMES],
 }
 
-// Appends the new names of the q names at `at`.
-fn put_names(
-    s: &[u8],
-    at: usize,
-    q: usize,
-    names: &[u8; MOST_NAMES],
-    out: &mut [u8],
-    p: usize,
-) -> usize
-    requires { NamesAt s.now at q names.now p }
-    ensures { Appends p (new_names names.now s.now at q)
-        out.old out.new result }
-{
-    let mut i: usize = 0;
-    let mut r = p;
-    while i < q {
-        let x = size(s[at + i]);
-        let next = put_byte(out, r, names[x]);
-        r = next;
-        i = i + 1;
+impl Spot {
+    // Appends the new names of the names xs.
+    fn put_names(&self, xs: &[u8], out: &mut Text<'_>)
+        requires { NamesFit xs.now self.now.names out.old.at }
+        ensures { Puts (new_names self.now.names xs.now) out.old out.new }
+    {
+        for x in xs {
+            out.put_byte(self.names[usize::from(*x)]);
+        }
     }
-    r
-}
 
-// Appends a NEW, and passes it.
-fn put_new(w: Spot, names: &mut [u8; MOST_NAMES], out: &mut [u8]) -> Spot
-    requires { Fits names.old w × (w.old < most_names) }
-    ensures { PassedAs making names.old w names.new result out.old out.new }
-{
-    let old = w.old;
-    let next = w.next;
-    names[old] = next;
-    let p = put_byte(out, w.out, NEW);
-    Spot {
-        at: w.at + 1,
-        old: old + 1,
-        next: next + 1,
-        out: p,
+    // Appends a NEW, and passes it.
+    fn put_new(&mut self, out: &mut Text<'_>)
+        requires { Fits self.old out.old.at × (self.old.local < most_names) }
+        ensures { PassedAs making self.old self.new out.old out.new }
+    {
+        out.put_byte(NEW);
+        self.names[self.local] = self.next;
+        self.at += 1;
+        self.local += 1;
+        self.next += 1;
     }
-}
 
-// Passes the MIRROR at w.
-fn put_mirror(s: &[u8], w: Spot, names: &mut [u8; MOST_NAMES]) -> Spot
-    requires { Fits names.old w × (w.old < most_names) × NameAt s.now (w.at + 1) }
-    ensures { MirrorPassed s.now names.old w names.new result }
-{
-    let at = w.at;
-    let old = w.old;
-    let y = size(s[at + 1]);
-    let x = names[y];
-    names[old] = x;
-    Spot {
-        at: at + 2,
-        old: old + 1,
-        next: w.next,
-        out: w.out,
+    // Passes the MIRROR at the place.
+    fn put_mirror(&mut self, s: &[u8])
+        requires { NameAt s.now (self.old.at + 1) × (length self.old.names ≡ most_names) × (self.old.local < most_names) }
+        ensures { MirrorPassed s.now self.old self.new }
+    {
+        let y = usize::from(s[self.at + 1]);
+        let x = self.names[y];
+        self.names[self.local] = x;
+        self.at += 2;
+        self.local += 1;
     }
-}
 
-// Appends the LOCK at w, and passes it.
-fn put_lock(s: &[u8], w: Spot, names: &[u8; MOST_NAMES], out: &mut [u8]) -> Spot
-    requires { Fits names.now w × NameAt s.now (w.at + 1) }
-    ensures { PassedAs (locking (get_or s.now (w.at + 1) 0)) names.now w
-        names.now result out.old out.new }
-{
-    let at = w.at;
-    let x = size(s[at + 1]);
-    let p = put_byte(out, w.out, LOCK);
-    let q = put_byte(out, p, names[x]);
-    Spot {
-        at: at + 2,
-        old: w.old,
-        next: w.next,
-        out: q,
+    // Appends the LOCK at the place, and passes it.
+    fn put_lock(&mut self, s: &[u8], out: &mut Text<'_>)
+        requires { Fits self.old out.old.at × NameAt s.now (self.old.at + 1) }
+        ensures { PassedAs (locking (get_or s.now (self.old.at + 1) 0)) self.old self.new out.old out.new }
+    {
+        let x = usize::from(s[self.at + 1]);
+        out.put_byte(LOCK);
+        out.put_byte(self.names[x]);
+        self.at += 2;
     }
-}
 
-// Appends the CALL at w, and passes it.
-fn put_call(
-    ks: &[u8],
-    s: &[u8],
-    places: &[u8],
-    w: Spot,
-    names: &[u8; MOST_NAMES],
-    out: &mut [u8],
-) -> Spot
-    requires { Fits names.now w × CallAt ks.now s.now w.at places.now }
-    ensures { Passed places.now (call_here ks.now s.now w.at)
-        names.now w names.now result out.old out.new }
-{
-    let at = w.at;
-    let r = size(s[at + 1]);
-    let q = size(ks[r]);
-    let a = put_byte(out, w.out, CALL);
-    let b = put_byte(out, a, places[r]);
-    let c = put_names(s, at + 2, q, names, out, b);
-    Spot {
-        at: at + 2 + q,
-        old: w.old,
-        next: w.next,
-        out: c,
+    // Appends the CALL at the place, and passes it. A routine that a met one calls is met, so that it has a place.
+    fn put_call(&mut self, t: &Sections<'_>, places: &[Option<u8>], out: &mut Text<'_>)
+        requires { Fits self.old out.old.at
+            × CallAt t.now.counts.now t.now.bodies.now self.old.at places.now }
+        ensures { Passed places.now (call_here t.now.counts.now t.now.bodies.now self.old.at)
+            self.old self.new out.old out.new }
+    {
+        let s = t.bodies;
+        let at = self.at;
+        let r = usize::from(s[at + 1]);
+        let end = at + 2 + usize::from(t.counts[r]);
+        out.put_byte(CALL);
+        out.put_byte(places[r].unwrap_or(0));
+        self.put_names(&s[at + 2..end], out);
+        self.at = end;
+    }
+
+    // Appends an item that is a code alone, and passes it.
+    fn put_mark(&mut self, b: u8, out: &mut Text<'_>)
+        requires { (self.old.at < most_bytes) × (out.old.at < 500000) }
+        ensures { PassedAs (mark b) self.old self.new out.old out.new }
+    {
+        out.put_byte(b);
+        self.at += 1;
+    }
+
+    // Appends the item at the place, and passes it.
+    fn put_item(&mut self, t: &Sections<'_>, places: &[Option<u8>], out: &mut Text<'_>)
+        requires { Fits self.old out.old.at
+            × SomeItem t.now.counts.now t.now.bodies.now self.old.at self.old.local
+            × (length t.now.counts.now ≤ length places.now) }
+        ensures { Passed places.now (item_at t.now.counts.now t.now.bodies.now self.old.at)
+            self.old self.new out.old out.new }
+    {
+        let s = t.bodies;
+        let b = s[self.at];
+        match b {
+            NEW => self.put_new(out),
+            MIRROR => self.put_mirror(s),
+            LOCK => self.put_lock(s, out),
+            CALL => self.put_call(t, places, out),
+            _ => self.put_mark(b, out),
+        }
     }
 }
 
-// Appends an item that is a code alone, and passes it.
-fn put_mark(b: u8, w: Spot, out: &mut [u8]) -> Spot
-    requires { (w.at < most_bytes) × (w.out < 500000) }
-    ensures { MarkPassed b w result out.old out.new }
+// Every name up to the limit for itself.
+fn itself() -> [u8; MOST_NAMES]
+    ensures { result ≡ itself16 }
 {
-    let p = put_byte(out, w.out, b);
-    Spot {
-        at: w.at + 1,
-        old: w.old,
-        next: w.next,
-        out: p,
+    let mut names = [0; MOST_NAMES];
+    for (x, name) in names.iter_mut().enumerate() {
+        *name = x as u8;
     }
-}
-
-// Appends the item at the place, and passes it.
-fn put_item(
-    ks: &[u8],
-    s: &[u8],
-    places: &[u8],
-    w: Spot,
-    names: &mut [u8; MOST_NAMES],
-    out: &mut [u8],
-) -> Spot
-    requires { Fits names.old w × SomeItem ks.now s.now w.at w.old
-        × (length ks.now ≤ length places.now) }
-    ensures { Passed places.now (item_at ks.now s.now w.at)
-        names.old w names.new result out.old out.new }
-{
-    let i = w.at;
-    let b = s[i];
-    match b {
-        NEW => put_new(w, names, out),
-        MIRROR => put_mirror(s, w, names),
-        LOCK => put_lock(s, w, names, out),
-        CALL => put_call(ks, s, places, w, names, out),
-        _ => put_mark(b, w, out),
-    }
+    names
 }
 
 // Appends the body from `at` to `end`, of a routine with `own` parameters.
 pub fn put_body(
-    ks: &[u8],
-    s: &[u8],
-    places: &[u8],
+    t: &Sections<'_>,
+    places: &[Option<u8>],
     at: usize,
     end: usize,
     own: u8,
-    out: &mut [u8],
-    p: usize,
-) -> usize
-    requires { BodyReady ks.now s.now places.now at end own p }
-    ensures { BodyWritten ks.now s.now places.now at end own p
-        out.old out.new result }
+    out: &mut Text<'_>,
+)
+    requires { BodyReady t.now.counts.now t.now.bodies.now places.now at end own out.old.at }
+    ensures { BodyWritten t.now.counts.now t.now.bodies.now places.now at end own out.old out.new }
 {
-    let mut names: [u8; MOST_NAMES] = [0, 1, 2, 3, 4, 5, 6, 7, 8, 9, 10, 11, 12, 13, 14, 15];
     let mut w = Spot {
-        at: at,
-        old: size(own) + 1,
+        at,
+        local: usize::from(own) + 1,
         next: own + 1,
-        out: p,
+        names: itself(),
     };
     while w.at < end {
-        w = put_item(ks, s, places, w, &mut names, out);
+        w.put_item(t, places, out);
     }
-    w.out
 }

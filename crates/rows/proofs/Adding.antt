@@ -1,17 +1,17 @@
 -- Adding bits to bytes: nothing, one byte, and one thing after another.
-use mathlib.Core.Path.{◌≡◌, refl, ◌∙◌, subst}
+use mathlib.Core.Path.{◌≡◌, refl, ◌∙◌}
 use mathlib.Core.Logic.{◌≢◌, ◌⊎◌, inl, inr, ⊎_elim}
 use mathlib.Core.Bool.{Bool, true, false, ◌||◌}
-use mathlib.Core.List.{List, []}
-use Prim.Native.Nat.{ℕ, ◌+◌, ◌<◌, ◌≤◌}
+use mathlib.Core.List.{List}
+use Prim.Native.Nat.{ℕ, ◌+◌, ◌<◌}
 use native.Mathlib.Omega.{arith}
 use native.Mathlib.Decide.{dec_lt, ℕ_discrete}
-use lib.ListN.{get_or, set, length, length-set, get_or-eq_default}
+use lib.ListN.{get_or, set, length, length-set}
 use lib.Seq.{get_or-set_same, get_or-set_other}
 use lib.Bits.{bit_or, or_zero_r}
+use Rattle.std.specs.Prelude.{Option, Some, None, IsSome}
 use Rattle.grid.specs.Rows.{Has, Rel, Bits}
-use Rattle.rules.specs.Label.{several}
-use Rattle.grid.specs.Grid.{Pair, LowestRing}
+use Rattle.grid.specs.Grid.{RingName}
 use Rattle.rows.specs.Added.{CellBit, AtByte, AtCell, AtName, AtRing, Below, Added}
 use Rattle.rows.specs.Laws.Totals.{total_set, moves_or}
 use Rattle.rows.proofs.Masks.{no_bits}
@@ -137,30 +137,22 @@ no_cell i a b l = added_none (AtCell i a b 0) l (λ p j w. has_zero w.2.1.0 w.2.
 pub same_name : (i a b m : ℕ) (l : List ℕ) → a ≡ b → Added (AtCell i a b m) l l false
 same_name i a b m l e = added_none (AtCell i a b m) l (λ p j w. w.1 e)
 
--- a ring name below 16 sets the bit, and 16 does not
-pub name_of_byte : (i y : ℕ) (e x : List ℕ) (c : Bool) → y < 16 → Added (AtByte i 1) e x c → Added (AtName i y) e x c
-name_of_byte i y e x c l p = added_map (AtByte i 1) (AtName i y) e x c to (λ q j w. (w.0, rw w.1)) p
+-- where there is a ring name it sets the bit, and else it does not
+pub name_of_byte :
+    (i : ℕ) (y : Option ℕ) (e x : List ℕ) (c : Bool) → IsSome y → Added (AtByte i 1) e x c → Added (AtName i y) e x c
+name_of_byte i y e x c some p = added_map (AtByte i 1) (AtName i y) e x c to (λ q j w. (w.0, rw w.1)) p
   where
     to : (q j : ℕ) → AtByte i 1 q j → AtName i y q j
-    to q j w = let z : j < 1 = has_below 1 1 j (omega arith) w.1 in (w.0, omega arith, l)
+    to q j w = let z : j < 1 = has_below 1 1 j (omega arith) w.1 in (w.0, omega arith, some)
 
-pub no_name : (i y : ℕ) (l : List ℕ) → y ≡ 16 → Added (AtName i y) l l false
-no_name i y l e = added_none (AtName i y) l (λ p j w. let b : y < 16 = w.2 in omega arith)
+pub no_name : (i : ℕ) (l : List ℕ) → Added (AtName i None) l l false
+no_name i l = added_none (AtName i None) l (λ p j w. let z = w.2 in cc)
 
--- the lowest ring name of a grid of sixteen rows is below 16 where it has a ring
+-- a grid has a ring name where it has a ring
 pub ring_of_name :
-    (i y : ℕ) (g : List (List ℕ)) (e x : List ℕ) (c : Bool) → length g ≡ 16 → LowestRing g y → Added (AtName i y) e x c
+    (i : ℕ) (y : Option ℕ) (g : List (List ℕ)) (e x : List ℕ) (c : Bool) → RingName g y → Added (AtName i y) e x c
     → Added (AtRing i g) e x c
-ring_of_name i y g e x c long ring p = added_map (AtName i y) (AtRing i g) e x c to from p
-  where
-    to : (q j : ℕ) → AtName i y q j → AtRing i g q j
-    to q j w = (w.0, w.1, (y, ring.ring w.2))
-
-    below : (z : ℕ) → Pair g z z several → Dec (z < 16) → y < 16
-    below z w (yes h) = let s : y ≤ z = ring.lowest z w in omega arith
-    below z w (no h) =
-        let d : get_or g z [] ≡ [] = get_or-eq_default g [] (omega arith) in
-        absurd (has_zero w.0 (subst (λ (r : List ℕ). Has (get_or r z 0) w.0) d w.3))
-
-    from : (q j : ℕ) → AtRing i g q j → AtName i y q j
-    from q j w = let z = w.2.0 in (w.0, w.1, below z w.2.1 (dec_lt z 16))
+ring_of_name i None g e x c none p =
+    added_map (AtName i None) (AtRing i g) e x c (λ q j w. let z = w.2 in cc) (λ q j w. absurd (none w.2.0 w.2.1)) p
+ring_of_name i (Some y) g e x c ring p =
+    added_map (AtName i (Some y)) (AtRing i g) e x c (λ q j w. (w.0, w.1, (y, ring.1))) (λ q j w. (w.0, w.1, refl)) p

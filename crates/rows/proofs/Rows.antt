@@ -6,10 +6,11 @@ use mathlib.Core.List.{List}
 use Prim.Native.Nat.{ℕ, ◌+◌, ◌*◌, ◌<◌, ◌≤◌}
 use native.Mathlib.Omega.{arith}
 use native.Mathlib.Decide.{ℕ_discrete}
-use lib.ListN.{get_or, length}
+use lib.ListN.{get_or}
+use Rattle.std.specs.Prelude.{Option}
 use Rattle.rules.specs.Label.{Label, cut}
 use Rattle.grid.specs.Rows.{Has, Rel}
-use Rattle.grid.specs.Grid.{Pair, LowestRing}
+use Rattle.grid.specs.Grid.{Pair, RingName}
 use Rattle.rows.specs.Bytes.{RowBits, RingByte}
 use Rattle.rows.specs.Model.{ShapedRow, GridRow, HasRing, Moves, RowAdded}
 use Rattle.rows.specs.Added.{bit_of, AtName, AtRing, InGrid, Added}
@@ -137,7 +138,7 @@ module _ (e x : List ℕ) (r k : ℕ) (g : List (List ℕ)) (c d : Bool) (few : 
           let h : Has (get_or x (65 * r + 64) 0) 0 = (added.bits (65 * r + 64)).from 0 (inr (inr (refl, refl, ring))) in
           omega arith
 
-      row_of_added : (y : ℕ) → LowestRing g y
+      row_of_added : (y : Option ℕ) → RingName g y
           → (c ≡ false → (q i : ℕ) → i < 64 → get_or x (65 * q + i) 0 ≡ get_or e (65 * q + i) 0) → RowAdded e x r k g c d y
       row_of_added y name same = record {
         long = added.long;
@@ -154,21 +155,21 @@ module _ (e x : List ℕ) (r k : ℕ) (g : List (List ℕ)) (c d : Bool) (few : 
         named = name;
       }
 
-module _ (e m x : List ℕ) (r k : ℕ) (g : List (List ℕ)) (c d : Bool) (y : ℕ) where
+module _ (e m x : List ℕ) (r k : ℕ) (g : List (List ℕ)) (c d : Bool) (y : Option ℕ) where
   -- the last byte of row r is no cell
   last_alone : Added (AtRing (65 * r + 64) g) m x d → (q i : ℕ) → i < 64 → get_or x (65 * q + i) 0 ≡ get_or m (65 * q + i) 0
   last_alone p q i h = p.rest (65 * q + i) (λ j w. not_last q r i h w.0)
 
-  pub row_added : k ≤ 7 → ((i : ℕ) → get_or x i 0 < 256) → length g ≡ 16 → LowestRing g y
+  pub row_added : k ≤ 7 → ((i : ℕ) → get_or x i 0 < 256) → RingName g y
       → ShapedRow e r → Added (InGrid (65 * r) g (k + 1) (k + 1)) e m c
       → Added (AtName (65 * r + 64) y) m x d → RowAdded e x r k g c d y
-  row_added few bytes long name shape p n =
+  row_added few bytes name shape p n =
       row_of_added e x r k g c d few bytes
       (added_then (InGrid (65 * r) g (k + 1) (k + 1)) (AtRing (65 * r + 64) g) e m x c d p q) shape y name
       (λ z i j h. last_alone q i j h ∙ ap (λ (v : List ℕ). get_or v (65 * i + j) 0) (told_same z p.told))
     where
       q : Added (AtRing (65 * r + 64) g) m x d
-      q = ring_of_name (65 * r + 64) y g m x d long name n
+      q = ring_of_name (65 * r + 64) y g m x d name n
 
       told_same : c ≡ false → Moves c e m → m ≡ e
       told_same z t = rw z at t

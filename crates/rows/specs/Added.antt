@@ -1,6 +1,6 @@
 -- Bits added to the bytes of a buffer: which ones, and what adding them leaves.
-use Rattle.std.specs.Prelude.{◌≡◌, ◌≢◌, ◌⊎◌, Bool, List, [], ℕ, ◌+◌, ◌*◌, ◌<◌, get_or, length}
-use Rattle.table.specs.Constants.{most_names, row_names}
+use Rattle.std.specs.Prelude.{◌≡◌, ◌≢◌, ◌⊎◌, Bool, List, [], ℕ, ◌+◌, ◌*◌, ◌<◌, get_or, length, Option, IsSome}
+use Rattle.table.specs.Constants.{row_names}
 use Rattle.rules.specs.Label.{Label, own, forked, unknown, several}
 use Rattle.grid.specs.Rows.{Has, Rel, Bits}
 use Rattle.grid.specs.Grid.{In}
@@ -29,9 +29,9 @@ AtCell i a b m p j = (p ≡ i) × (a ≢ b) × CellBit m j
 abbrev pub AtRing : ℕ → List (List ℕ) → Rel
 AtRing i g p j = (p ≡ i) × (j ≡ 0) × HasRing g
 
--- the ring name x, and not 16, in byte i
-abbrev pub AtName : ℕ → ℕ → Rel
-AtName i x p j = (p ≡ i) × (j ≡ 0) × (x < most_names)
+-- a ring name, where there is one, in byte i
+abbrev pub AtName : ℕ → Option ℕ → Rel
+AtName i ring p j = (p ≡ i) × (j ≡ 0) × IsSome ring
 
 -- the bits of each of F below n
 abbrev pub Below : (ℕ → Rel) → ℕ → Rel

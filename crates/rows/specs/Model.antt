@@ -1,8 +1,8 @@
 -- The rows of a model buffer, and what adding a closed grid to a row and clearing rows leave.
-use Rattle.std.specs.Prelude.{◌≡◌, ◌≢◌, ◌⊎◌, Bool, true, false, ◌||◌, List, [], ◌∷◌, ℕ, ◌+◌, ◌*◌, ◌<◌, ◌≤◌, get_or, length}
+use Rattle.std.specs.Prelude.{◌≡◌, ◌≢◌, ◌⊎◌, Bool, true, false, ◌||◌, List, [], ◌∷◌, ℕ, ◌+◌, ◌*◌, ◌<◌, ◌≤◌, get_or, length, Option}
 use Rattle.table.specs.Constants.{row_cells, row_bytes}
 use Rattle.rules.specs.Label.{Label, several, cut}
-use Rattle.grid.specs.Grid.{Pair, LowestRing}
+use Rattle.grid.specs.Grid.{Pair, RingName}
 use Rattle.rows.specs.Bytes.{RowBits, RingByte}
 
 -- the row of routine r: each cell has labels alone, and the last byte is 0 or 1
@@ -33,8 +33,8 @@ Moves false before after = after ≡ before
 Moves true before after = total before < total after
 
 -- after is before with the row of the grid g, of a routine of k parameters, added to row r; the flags tell whether its
--- cells and its last byte changed, and x is the lowest ring name of the grid, or 16
-pub record RowAdded (before after : List ℕ) (r k : ℕ) (g : List (List ℕ)) (cells last : Bool) (x : ℕ) : Type 0 where
+-- cells and its last byte changed, and name is the lowest ring name of the grid, if there is one
+pub record RowAdded (before after : List ℕ) (r k : ℕ) (g : List (List ℕ)) (cells last : Bool) (name : Option ℕ) : Type 0 where
   pub long : length after ≡ length before
   pub outside : (i : ℕ) → (i < row_bytes * r) ⊎ (row_bytes * r + row_bytes ≤ i) → get_or after i 0 ≡ get_or before i 0
   pub only : (q a b : ℕ) (l : Label)
@@ -48,7 +48,7 @@ pub record RowAdded (before after : List ℕ) (r k : ℕ) (g : List (List ℕ)) 
   pub told : Moves (cells || last) before after
   pub same_cells : cells ≡ false → (q i : ℕ) → i < row_cells
       → get_or after (row_bytes * q + i) 0 ≡ get_or before (row_bytes * q + i) 0
-  pub named : LowestRing g x
+  pub named : RingName g name
 
 -- after is before with the bytes from start to end zero
 pub record Cleared (start end : ℕ) (before after : List ℕ) : Type 0 where

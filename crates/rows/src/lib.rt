@@ -2,7 +2,7 @@
 #![tactic(auto)]
 
 ghost use Rattle.std.specs.Prelude.{◌+◌, ◌*◌, ◌<◌, ◌≤◌, length};
-ghost use Rattle.table.specs.Constants.{most_names, most_params, row_cells, row_bytes};
+ghost use Rattle.table.specs.Constants.{most_params, row_cells, row_bytes};
 ghost use Rattle.grid.specs.Rows.{Bits};
 ghost use Rattle.rows.specs.Model.{ShapedRow, RowAdded, Cleared};
 ghost use Rattle.rows.specs.Added.{CellBit, AtByte, AtCell, AtName, InRow, InGrid, Added};
@@ -42,25 +42,20 @@ fn with_cell(model: &mut [u8], i: usize, a: usize, b: usize, m: u16) -> bool
     requires { i < length model.old }
     ensures { Added (AtCell i a b m) model.old model.new result }
 {
-    if a == b {
+    if a == b || m == 0 {
         return false;
     }
-    if m == 0 {
-        return false;
-    }
-    let v = cell_byte(m);
-    with_byte(model, i, v)
+    with_byte(model, i, cell_byte(m))
 }
 
 // Adds the pairs from a to the names 0 to k, with the masks of row, to the cells of the row that begins at start.
-fn with_cells(model: &mut [u8], start: usize, a: usize, row: [u16; MOST_NAMES], k: usize) -> bool
+fn with_cells(model: &mut [u8], start: usize, a: usize, row: &[u16; MOST_NAMES], k: usize) -> bool
     requires { (a ≤ most_params) × (k ≤ most_params) × (start + row_cells ≤ length model.old) }
-    ensures { Added (InRow start a row (k + 1)) model.old model.new result }
+    ensures { Added (InRow start a row.now (k + 1)) model.old model.new result }
 {
     let mut changed = false;
-    for b in 0..k + 1 {
-        let more = with_cell(model, start + ROW_NAMES * a + b, a, b, row[b]);
-        changed = changed | more;
+    for (b, m) in row[..k + 1].iter().enumerate() {
+        changed |= with_cell(model, start + ROW_NAMES * a + b, a, b, *m);
     }
     changed
 }
@@ -71,32 +66,27 @@ fn with_pairs(model: &mut [u8], start: usize, g: &Grid, k: usize) -> bool
     ensures { Added (InGrid start g.now (k + 1) (k + 1)) model.old model.new result }
 {
     let mut changed = false;
-    for a in 0..k + 1 {
-        let row = g[a];
-        let more = with_cells(model, start, a, row, k);
-        changed = changed | more;
+    for (a, row) in g[..k + 1].iter().enumerate() {
+        changed |= with_cells(model, start, a, row, k);
     }
     changed
 }
 
-// Sets byte i if x is a ring name, and not MOST_NAMES.
-fn with_ring(model: &mut [u8], i: usize, x: usize) -> bool
-    requires { (i < length model.old) × (x ≤ most_names) }
-    ensures { Added (AtName i x) model.old model.new result }
+// Sets byte i if there is a ring.
+fn with_ring(model: &mut [u8], i: usize, ring: Option<usize>) -> bool
+    requires { i < length model.old }
+    ensures { Added (AtName i ring) model.old model.new result }
 {
-    if x == MOST_NAMES {
-        return false;
-    }
-    with_byte(model, i, 1)
+    ring.is_some() && with_byte(model, i, 1)
 }
 
-// What adding a row gives: whether that changed its cells, and whether its last byte; and the lowest name with a ring,
-// or MOST_NAMES.
-#[derive(Clone, Copy)]
+// What adding a row gives: whether that changed its cells, and whether its last byte; and the lowest name with a ring, if
+// there is one.
+#[derive(Clone, Copy, Debug, PartialEq, Eq)]
 pub struct Change {
     pub cells: bool,
     pub last: bool,
-    pub name: u8,
+    pub name: Option<u8>,
 }
 
 // Adds the row that the closed grid g gives a routine of k parameters to row r.
@@ -105,14 +95,11 @@ pub fn with_row(model: &mut [u8], r: usize, k: usize, g: Grid) -> Change
     ensures { RowAdded model.old model.new r k g result.cells result.last result.name }
 {
     let start = ROW_BYTES * r;
-    let x = grid::ring_name(g);
+    let ring = grid::ring_name(&g);
     let cells = with_pairs(model, start, &g, k);
-    let last = with_ring(model, start + ROW_CELLS, x);
-    Change {
-        cells: cells,
-        last: last,
-        name: x as u8,
-    }
+    let last = with_ring(model, start + ROW_CELLS, ring);
+    let name = ring.map(|x| x as u8);
+    Change { cells, last, name }
 }
 
 // Sets the bytes from start to end to zero.
@@ -120,7 +107,5 @@ pub fn clear(model: &mut [u8], start: usize, end: usize)
     requires { (start ≤ end) × (end ≤ length model.old) }
     ensures { Cleared start end model.old model.new }
 {
-    for i in start..end {
-        model[i] = 0;
-    }
+    model[start..end].fill(0);
 }

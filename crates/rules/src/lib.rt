@@ -1,4 +1,5 @@
-// Labels as numbers, and how they combine: 0 is the running thread, then come the forks, and then two more.
+// Labels as numbers, since a cell of a grid is a mask of them, and how they combine: 0 is the running thread, then come
+// the forks, and then two more.
 #![tactic(auto)]
 
 ghost use Rattle.std.specs.Prelude.{◌≡◌, ◌<◌};
@@ -24,10 +25,9 @@ pub fn combine(a: usize, b: usize) -> u8
     requires { (a < labels) × (b < labels) }
     ensures { result ≡ number (label.combine (label_of a) (label_of b)) }
 {
-    if a == b {
-        if a < UNKNOWN {
-            return a as u8;
-        }
+    if a == b && a < UNKNOWN {
+        a as u8
+    } else {
+        SEVERAL as u8
     }
-    SEVERAL as u8
 }

@@ -3,6 +3,7 @@ pub mod Items
 pub mod Calls
 pub mod Outlooks
 pub mod Settles
+pub mod Answers
 pub mod Ticking
 pub mod States
 pub mod Turns
@@ -16,7 +17,6 @@ pub mod Steady
 pub mod Shows
 pub mod Codes
 pub mod Standing
-pub mod Answers
 pub mod Sections
 pub mod Promised
 pub mod Refusals

@@ -1,24 +1,17 @@
 -- Ticks: the record that the machine looks at is stepped and stored, until nothing more is to be done.
-use Rattle.std.specs.Prelude.{◌≡◌, cond, List, ℕ, ◌+◌, ◌*◌, ◌-◌, ◌<◌, ◌≤◌, eqb, length, get_or, set, take, drop}
+use Rattle.std.specs.Prelude.{◌≡◌, false, cond, List, ℕ, ◌+◌, ◌*◌, ◌-◌, ◌<◌, length, get_or, set}
 use Rattle.steps.specs.declared.thread.Thread.{Thread as Record}
 use Rattle.steps.specs.Shown.{blank}
 use Rattle.links.specs.Lies.{Section, section}
 use Rattle.steps.specs.declared.machine.Machine.{Machine}
-use Rattle.steps.specs.declared.Ticked.{Ticked}
-use Rattle.steps.specs.Steps.{step_as, Ready}
+use Rattle.steps.specs.declared.Course.{Course}
+use Rattle.steps.specs.Machines.{is_born, is_over}
+use Rattle.steps.specs.Steps.{Ticked, step_as, Ready}
 use Rattle.schedule.specs.Limits.{most_frames, all_names}
 
--- the parameter counts and the body section of a table, as code takes them
-abbrev pub counts_in : List ℕ → List ℕ
-counts_in table = take (get_or table 0 0 + 1 - 1) (drop 1 table)
-
-abbrev pub bytes_in : List ℕ → List ℕ
-bytes_in table = take (length table - (get_or table 0 0 + 3)) (drop (get_or table 0 0 + 3) table)
-
--- what a tick needs beside the records and the machine: the sections of the table, where its bodies start, what belongs
--- to its items, and the schedule
-abbrev pub section_of : List ℕ → List ℕ → List ℕ → List ℕ → Section
-section_of table heads links bs = section (counts_in table) (bytes_in table) heads links bs
+-- what a tick needs beside the records and the machine
+abbrev pub course_of : Course → Section
+course_of c = section c.sections.counts.now c.sections.bodies.now c.heads.now c.links.now c.schedule.now
 
 -- a tick of the machine on the record t
 abbrev pub tick_as : Section → Record → Machine → Ticked
@@ -42,10 +35,9 @@ pub record Sized (t : Record) : Type 0 where
   pub goes : length t.goes ≡ most_frames
   pub names : length t.names ≡ all_names
 
--- the record t can be stepped, in a section that is not empty
-pub record CanStep (z : Section) (t : Record) (m : Machine) : Type 0 where
-  pub some : 1 ≤ length z.bytes
-  pub ready : Ready z.counts z.bytes z.heads z.links z.schedule t m
+-- the record t can be stepped
+abbrev pub CanStep : Section → Record → Machine → Type 0
+CanStep z t m = Ready z.counts z.bytes z.heads z.links z.schedule t m
 
 -- a tick can be taken
 pub record CanTick (z : Section) (ts : List Record) (m : Machine) : Type 0 where
@@ -55,16 +47,16 @@ pub record CanTick (z : Section) (ts : List Record) (m : Machine) : Type 0 where
 -- by ticks, from records and a machine to records and a machine
 pub data Ticks (z : Section) (ts : List Record) (m : Machine) : List Record → Machine → Type 0 where
   start : Ticks z ts m ts m
-  more : (us vs : List Record) (n k : Machine) → Ticks z ts m us n → (n.stage ≡ 2 → ⊥) → vs ≡ records_after z us n
+  more : (us vs : List Record) (n k : Machine) → Ticks z ts m us n → is_over n.stage ≡ false → vs ≡ records_after z us n
       → k ≡ machine_after z us n → Sized (tick_as z (looked us n) n).thread → Ticks z ts m vs k
 
 -- how much is left to do, at most: two ticks for each byte, for a thread may start
 abbrev pub left : Section → Machine → ℕ
 left z m =
-    cond (eqb m.stage 2) 0 (2 * (length z.schedule - m.read) + cond (eqb m.stage 0) 2 1)
+    cond (is_over m.stage) 0 (2 * (length z.schedule - m.read) + cond (is_born m.stage) 2 1)
 
 -- wherever ticks lead, one more can be taken and less is left to do, unless nothing more is to be done
 abbrev pub Steady : Section → List Record → Machine → Type 0
 Steady z ts m =
-    (us : List Record) (n : Machine) → Ticks z ts m us n → (n.stage ≡ 2 → ⊥)
+    (us : List Record) (n : Machine) → Ticks z ts m us n → is_over n.stage ≡ false
     → CanTick z us n × (left z (machine_after z us n) < left z n)

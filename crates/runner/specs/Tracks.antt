@@ -1,5 +1,5 @@
 -- How the machine tracks a state of the run: the locks, who holds them, and what each thread wants.
-use Rattle.std.specs.Prelude.{◌≡◌, ◌≢◌, cond, List, [], ◌∷◌, ℕ, suc, ◌+◌, ◌<◌, ◌≤◌, eqb, length, get_or, set}
+use Rattle.std.specs.Prelude.{◌≡◌, ◌≢◌, true, cond, List, [], ◌∷◌, ℕ, suc, ◌<◌, ◌≤◌, eqb, length, get_or, set}
 use Rattle.table.specs.Program.{end, new, lock, fork, choice, call, mirror}
 use Rattle.run.specs.Run.{Thread, ended, at, State, thread, holds}
 use Rattle.schedule.specs.Limits.{most_threads, most_locks}
@@ -7,8 +7,13 @@ use Rattle.schedule.specs.Schedule.{Outlook, none_left, all_wait, some_can}
 use Rattle.steps.specs.declared.thread.Thread.{Thread as Record}
 use Rattle.steps.specs.Shown.{blank}
 use Rattle.steps.specs.Records.{born_at}
+use Rattle.steps.specs.declared.machine.Ending.{Ending}
+use Rattle.steps.specs.declared.machine.Ending.TheVariants.{Ended, Stuck, Open}
+use Rattle.steps.specs.declared.machine.Want.{Want}
+use Rattle.steps.specs.declared.machine.Want.TheVariants.{Free, Gone}
+use Rattle.steps.specs.declared.machine.Want.TheVariants as want
 use Rattle.steps.specs.declared.machine.Machine.{Machine}
-use Rattle.steps.specs.Machines.{ended_mark, stuck_mark, open_mark}
+use Rattle.steps.specs.Machines.{lock_at, is_born}
 use Rattle.links.specs.Lies.{Section}
 use Rattle.runner.specs.Ticks.{Sized, looked}
 use Rattle.runner.specs.Follows.{Follows}
@@ -22,18 +27,18 @@ occurs l (x ∷ xs) = cond (eqb x l) (suc (occurs l xs)) (occurs l xs)
 abbrev pub Held : State → Machine → Type 0
 Held s m =
     (u l : ℕ) → l < most_locks
-    → occurs l (holds (thread s u)) ≡ cond (eqb (get_or m.owner l 0) u) (get_or m.count l 0) 0
+    → occurs l (holds (thread s u)) ≡ cond (eqb (lock_at m l).owner u) (lock_at m l).count 0
 
 -- what a thread wants: the lock that its next item takes, nothing, or nothing any more
-abbrev pub want_of : Thread → ℕ
-want_of ended = most_locks + 1
-want_of (at end e fs) = most_locks
-want_of (at (new x c) e fs) = most_locks
-want_of (at (lock x c d) e fs) = e x
-want_of (at (fork i c d) e fs) = most_locks
-want_of (at (choice a b c) e fs) = most_locks
-want_of (at (call r xs c) e fs) = most_locks
-want_of (at (mirror x y c) e fs) = most_locks
+abbrev pub want_of : Thread → Want
+want_of ended = Gone
+want_of (at end e fs) = Free
+want_of (at (new x c) e fs) = Free
+want_of (at (lock x c d) e fs) = want.Lock (e x)
+want_of (at (fork i c d) e fs) = Free
+want_of (at (choice a b c) e fs) = Free
+want_of (at (call r xs c) e fs) = Free
+want_of (at (mirror x y c) e fs) = Free
 
 -- a thread wants a lock that there can be
 abbrev pub SmallWant : Thread → Type 0
@@ -48,18 +53,18 @@ SmallWant (at (mirror x y c) e fs) = Unit {0}
 
 -- what each thread wants is as the machine has it
 pub record Wants (s : State) (m : Machine) : Type 0 where
-  pub wanted : (t : ℕ) → t < length s.threads → get_or m.wants t 0 ≡ want_of (thread s t)
+  pub wanted : (t : ℕ) → t < length s.threads → get_or m.wants t Free ≡ want_of (thread s t)
   pub small : (t : ℕ) → SmallWant (thread s t)
 
--- the number that the machine has for how threads stand
-abbrev pub outlook_number : Outlook → ℕ
-outlook_number none_left = ended_mark
-outlook_number all_wait = stuck_mark
-outlook_number some_can = open_mark
+-- what the machine has for how threads stand
+abbrev pub outlook_ending : Outlook → Ending
+outlook_ending none_left = Ended
+outlook_ending all_wait = Stuck
+outlook_ending some_can = Open
 
 -- the records, with the one that is still to be written
 abbrev pub written : List Record → Machine → List Record
-written ts m = cond (eqb m.stage 0) (set ts m.pick (born_at (looked ts m) m.head m.born)) ts
+written ts m = cond (is_born m.stage) (set ts m.pick (born_at (looked ts m) m.head m.born)) ts
 
 -- the records and the machine track the state; of a record that is still to be written nothing is known but by its size
 pub record Tracks (z : Section) (s : State) (ts : List Record) (m : Machine) : Type 0 where
@@ -71,9 +76,8 @@ pub record Tracks (z : Section) (s : State) (ts : List Record) (m : Machine) : T
   pub few_locks : s.made ≤ most_locks
   pub follows : (t : ℕ) → t < length s.threads → Sized (get_or (written ts m) t blank)
       → Follows z (thread s t) (get_or (written ts m) t blank)
-  pub sized : (t : ℕ) → t < length s.threads → (m.stage ≡ 0 → t ≢ m.pick) → Sized (get_or (written ts m) t blank)
+  pub sized : (t : ℕ) → t < length s.threads → (is_born m.stage ≡ true → t ≢ m.pick) → Sized (get_or (written ts m) t blank)
   pub held : Held s m
   pub wants : Wants s m
-  pub owners : length m.owner ≡ most_locks
-  pub counts : length m.count ≡ most_locks
+  pub locks_long : length m.locks ≡ most_locks
   pub wants_long : length m.wants ≡ most_threads

@@ -11,11 +11,39 @@ use lib.Seq.{get_or-set_same, get_or-set_other}
 use lib.Bits.{bit_or, or_lt}
 use lib.Pow.{pow-lt}
 use Rattle.table.specs.Laws.ScopeMask.{grows, shift_one}
-use Rattle.grid.specs.Rows.{Has, Bits}
-use Rattle.grid.proofs.Laws.Masks.{has_zero, has_left, has_right, has_or, has_pow, pow_has, bits_map}
-use Rattle.settle.specs.Due.{Highest, All, Below, CallerAdded, Callers}
-use Rattle.settle.specs.Laws.Masks.{has_top, Gathered, gathered_none, gathered_more}
-use Rattle.settle.specs.Laws.Off.{inside as within, taken as bit_taken, rest_bits, rest_less as less-left}
+use Rattle.grid.specs.Rows.{Has}
+use Rattle.grid.proofs.Laws.Masks.{has_zero, has_below, has_left, has_right, has_or, has_pow, pow_has, bits_map}
+use Rattle.settle.specs.Due.{Highest, Taken, All, Below, CallerAdded, Callers}
+use Rattle.settle.specs.Laws.Masks.{has_top, next_power, Gathered, gathered_none, gathered_more}
+use Rattle.settle.specs.Laws.Off.{inside, rest_is, rest_bits, rest_less}
+
+-- the highest routine of a mask is taken off it as code takes it
+module _ (mask r : ℕ) (fits : mask < 2 ^ 64) (top : Highest mask r) where
+  bit : Has mask r
+  bit = has_top mask r top
+
+  pub top_routine : r < 64
+  top_routine = inside 64 mask r (le_refl 64) fits bit
+
+  abbrev others : ℕ
+  others = mask - (1 * 2 ^ r) % 18446744073709551616
+
+  low : others < 2 ^ r
+  low =
+      let e = rest_is 64 mask r (le_refl 64) fits bit in
+      let p = next_power r in
+      let h = top.high in
+      let l = top.low in
+      omega arith
+
+  pub taken_off : Taken mask r others
+  taken_off = record {
+    bit = bit;
+    routine = top_routine;
+    others = rest_bits 64 mask r (le_refl 64) fits bit;
+    lower = λ q h. has_below others r q low h;
+    less = rest_less 64 mask r (le_refl 64) fits bit;
+  }
 
 -- a mask of all numbers below r, as one of those with a property that all have
 abbrev Any : ℕ → Type 0
@@ -47,7 +75,6 @@ module _ (before : List ℕ) (mask r : ℕ) where
     pub only : (q p : ℕ) → Has (get_or after q 0) p → Has (get_or before q 0) p ⊎ ((p ≡ r) × Has mask q)
     pub left_of : (q : ℕ) → Has left q → Has mask q
     pub below : Below after (r + 1)
-    pub less : left ≤ mask
 
   pub adding_none : Below before r → Adding before mask
   adding_none b = record {
@@ -56,7 +83,6 @@ module _ (before : List ℕ) (mask r : ℕ) where
     only = λ q p h. inl h;
     left_of = λ q h. h;
     below = (b.0, λ q. wider r (get_or before q 0) (b.1 q));
-    less = omega arith;
   }
 
   pub adding_done : (after : List ℕ) (left : ℕ) → left ≡ 0 → Adding after left → CallerAdded before mask r after
@@ -68,28 +94,9 @@ module _ (before : List ℕ) (mask r : ℕ) where
   }
 
   -- a turn, for routine q of those that are left
-  module _ (small : r < 64) (fits : mask < 2 ^ 64) (after : List ℕ) (left q : ℕ) (a : Adding after left)
-      (top : Highest left q) where
-    bit : Has left q
-    bit = has_top left q top
-
-    low_left : left < 2 ^ 64
-    low_left = let l = a.less in omega arith
-
-    pub inside : q < 64
-    inside = within 64 left q (le_refl 64) low_left bit
-
+  module _ (small : r < 64) (after : List ℕ) (left q rest : ℕ) (a : Adding after left) (t : Taken left q rest) where
     there : q < length after
-    there = let i = inside in let l = a.below.0 in omega arith
-
-    pub taken : (1 * 2 ^ q) % 18446744073709551616 ≤ left
-    taken = bit_taken 64 left q (le_refl 64) low_left bit
-
-    abbrev rest : ℕ
-    rest = left - (1 * 2 ^ q) % 18446744073709551616
-
-    off : Bits rest (λ j. (j ≢ q) × Has left j)
-    off = rest_bits 64 left q (le_refl 64) low_left bit
+    there = let i = t.routine in let l = a.below.0 in omega arith
 
     abbrev next : List ℕ
     next = set after q (bit_or (get_or after q 0) ((1 * 2 ^ r) % 18446744073709551616))
@@ -100,17 +107,13 @@ module _ (before : List ℕ) (mask r : ℕ) where
     other : (p : ℕ) → p ≢ q → get_or next p 0 ≡ get_or after p 0
     other p n = get_or-set_other after q p _ 0 n
 
-    pub rest_less : rest < left
-    rest_less = less-left 64 left q (le_refl 64) low_left bit
-
     pub adding_turn : Adding next rest
     adding_turn = record {
       old = λ p i h. kept p i (a.old p i h) (ℕ_discrete p q);
       new = λ p h. told p (a.new p h) (ℕ_discrete p q);
       only = λ p i h. only p i h (ℕ_discrete p q);
-      left_of = λ p h. a.left_of p (off.to p h).1;
+      left_of = λ p h. a.left_of p (t.others.to p h).1;
       below = (length-set after q _ ∙ a.below.0, λ p. low p (ℕ_discrete p q));
-      less = let l = a.less in let k = rest_less in omega arith;
     }
       where
         kept : (p i : ℕ) → Has (get_or after p 0) i → Dec (p ≡ q) → Has (get_or next p 0) i
@@ -119,7 +122,7 @@ module _ (before : List ℕ) (mask r : ℕ) where
 
         told : (p : ℕ) → Has left p ⊎ Has (get_or after p 0) r → Dec (p ≡ q) → Has rest p ⊎ Has (get_or next p 0) r
         told p h (yes e) = inr (rw (e, here) (has_right (get_or after q 0) (2 ^ r) r (has_pow r)))
-        told p (inl h) (no n) = inl (off.from p (n, h))
+        told p (inl h) (no n) = inl (t.others.from p (n, h))
         told p (inr h) (no n) = inr (rw (other p n) h)
 
         only : (p i : ℕ) → Has (get_or next p 0) i → Dec (p ≡ q) → Has (get_or before p 0) i ⊎ ((i ≡ r) × Has mask p)
@@ -128,7 +131,7 @@ module _ (before : List ℕ) (mask r : ℕ) where
           where
             go : Has (get_or after q 0) i ⊎ Has (2 ^ r) i → Has (get_or before p 0) i ⊎ ((i ≡ r) × Has mask p)
             go (inl x) = a.only p i (rw e x)
-            go (inr x) = inr (pow_has r i x, rw e (a.left_of q bit))
+            go (inr x) = inr (pow_has r i x, rw e (a.left_of q t.bit))
 
         low : (p : ℕ) → Dec (p ≡ q) → get_or next p 0 < 2 ^ (r + 1)
         low p (yes e) = rw (e, here) (with_r r (get_or after q 0) (a.below.1 q))

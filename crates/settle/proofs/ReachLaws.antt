@@ -135,7 +135,7 @@ module _ (calls : List ℕ) (from : ℕ) where
         let fits = next_fits in
         omega arith
 
-    pub visit : Visit mask left r
+    visit : Visit mask left r
     visit = record {
       there = called_there;
       small = small;
@@ -162,3 +162,9 @@ module _ (calls : List ℕ) (from : ℕ) where
       none_left =
           let e : 2 ^ from - (1 * 2 ^ from) % 18446744073709551616 ≡ 0 = rw (shift_one from few) (omega arith) in
           ap (λ (v : ℕ). bit_or v new_ones) e ∙ or_zero_l new_ones
+
+-- a visit of the highest routine that is left, as code makes it
+pub visited : {calls : List ℕ} {from mask left r : ℕ} → CanReach calls from → Followed calls from mask left
+    → Highest left r → get_or calls r 0 < 18446744073709551616 → Visit calls from mask left r
+visited {calls = calls} {from = from} {mask = mask} {left = left} {r = r} can f top small =
+    visit calls from can mask left r f top small

@@ -9,6 +9,7 @@ use native.Mathlib.Omega.{arith}
 use native.Mathlib.Decide.{ℕ_discrete}
 use lib.ListN.{length, get_or, set}
 use lib.Seq.{get_or-set_same, get_or-set_other}
+use Rattle.std.specs.Prelude.{Option, None}
 use Rattle.table.specs.Program.{Program, params, body}
 use Rattle.rules.specs.Label.{Label, several, cut}
 use Rattle.rules.specs.Verdict.{Calls}
@@ -20,14 +21,15 @@ use Rattle.rows.specs.Laws.Cells.{apart, row_moves}
 use Rattle.rounds.specs.Given.{RowsWith}
 use Rattle.rounds.proofs.Laws.LeastGiven.{Within, derived_mono, with_satisfies}
 use Rattle.settle.specs.Settle.{WorkedOut, Named, Fresh, Whole, PartlyWith, Improved}
+use Rattle.settle.specs.Laws.Improving.{lowest_same}
 
 module _ (P : Program) (T : ℕ → Type 0) (T? : (q : ℕ) → Dec (T q)) (listed : (q : ℕ) → T q → q < length P)
-    (before model after names : List ℕ) (r : ℕ) (cells last : Bool) (x : ℕ) (tr : T r)
+    (before model after : List ℕ) (names : List (Option ℕ)) (r : ℕ) (cells last : Bool) (x : Option ℕ) (tr : T r)
     (due : ℕ → Type 0) (part : PartlyWith P T before model names due)
     (imp : Improved P model model after r cells last x)
     (place : r < length names) where
   -- the ring names afterwards
-  abbrev renamed : List ℕ
+  abbrev renamed : List (Option ℕ)
   renamed = set names r x
 
   add : RowAdded model after r (params P r) imp.grid cells last x
@@ -91,17 +93,14 @@ module _ (P : Program) (T : ℕ → Type 0) (T? : (q : ℕ) → Dec (T q)) (list
     forth : (a b : ℕ) (l : Label) → WorkedOut P model q a b l → WorkedOut P after q a b l
     forth = calls_only P (RowsOf (length P) model) (RowsOf (length P) after) q (λ p a b l k. keeps p a b l)
 
-    stays_named : (y : ℕ) → Named P model q y → Named P after q y
-    stays_named y n = record {
-      ring = λ l. forth y y several (n.ring l);
-      lowest = λ z w. n.lowest z (back z z several w);
-    }
+    stays_named : (y : Option ℕ) → Named P model q y → Named P after q y
+    stays_named y n = lowest_same y (λ z w. forth z z several w) (λ z w. back z z several w) n
 
     stays_fresh : q ≢ r → Fresh P model names q → Fresh P after renamed q
     stays_fresh m f = record {
       row = up_to_date_kept P (RowsOf (length P) model) (RowsOf (length P) after) q (keeps q) same f.row;
       ring = λ y w. add.ring_old q (f.ring y (back y y several w));
-      name = rw (get_or-set_other names r q x 0 m) (stays_named (get_or names q 0) f.name);
+      name = rw (get_or-set_other names r q x None m) (stays_named (get_or names q None) f.name);
     }
 
     becomes_fresh : q ≡ r → Fresh P after renamed q
@@ -116,7 +115,7 @@ module _ (P : Program) (T : ℕ → Type 0) (T? : (q : ℕ) → Dec (T q)) (list
         imp.pairs.all y y several
             (at_r (back y y several w)),
       ));
-      name = stays_named (get_or renamed q 0) (rw (e, get_or-set_same names r x 0 place) imp.named);
+      name = stays_named (get_or renamed q None) (rw (e, get_or-set_same names r x None place) imp.named);
     }
       where
         at_r : {a b : ℕ} {m : Label} → WorkedOut P model q a b m → WorkedOut P model r a b m

@@ -1,6 +1,6 @@
 -- Where the bodies stand in the section, what a survey of them gives, and what the functions of `lib.rt` are given and
 -- leave.
-use Rattle.std.specs.Prelude.{◌≡◌, Bool, List, [], ◌∷◌, ℕ, zero, suc, ◌+◌, ◌*◌, ◌^◌, ◌≤◌, ◌<◌, length, get_or, take}
+use Rattle.std.specs.Prelude.{◌≡◌, Bool, List, [], ◌∷◌, ℕ, zero, suc, ◌+◌, ◌*◌, ◌^◌, ◌≤◌, ◌<◌, length, get_or, take, Option}
 use Rattle.table.specs.Constants.{END, row_bytes}
 use Rattle.table.specs.Program.{Program, body}
 use Rattle.table.specs.Encoding.{encode}
@@ -42,10 +42,10 @@ pub record RowReady (ks s : List ℕ) (at r : ℕ) (rows model : List ℕ) : Typ
   pub long : row_bytes * length program ≤ length model
   pub shaped : ShapedRow model r
 
--- the row of routine r was worked out again from the rows, and x is its ring name
-abbrev pub Improves : List ℕ → List ℕ → ℕ → ℕ → List ℕ → List ℕ → List ℕ → Bool → Bool → ℕ → Type 0
-Improves ks s at r rows before after cells last x =
-    (P : Program) → BodyOf P ks s at r → Improved P rows before after r cells last x
+-- the row of routine r was worked out again from the rows, and name is its ring name
+abbrev pub Improves : List ℕ → List ℕ → ℕ → ℕ → List ℕ → List ℕ → List ℕ → Bool → Bool → Option ℕ → Type 0
+Improves ks s at r rows before after cells last name =
+    (P : Program) → BodyOf P ks s at r → Improved P rows before after r cells last name
 
 -- where the bodies start, and what each calls, as bits
 pub record Surveyed (P : Program) (starts calls : List ℕ) : Type 0 where
@@ -90,7 +90,7 @@ pub record Started (ks s starts callers : List ℕ) (mask : ℕ) (model : List �
   pub partly : PartlyWith program (Has mask) before model [] (Has mask)
 
 -- where the rows of the mask were due, none is, and the ring names are those of the list
-abbrev pub Settles : List ℕ → List ℕ → List ℕ → List ℕ → ℕ → List ℕ → List ℕ → List ℕ → Type 0
+abbrev pub Settles : List ℕ → List ℕ → List ℕ → List ℕ → ℕ → List ℕ → List ℕ → List (Option ℕ) → Type 0
 Settles ks s starts callers mask from to names =
     (P : Program) (before : List ℕ) → Linked P ks s starts callers
     → PartlyWith P (Has mask) before from [] (Has mask) → PartlyWith P (Has mask) before to names (λ r. ⊥)

@@ -1,5 +1,7 @@
--- What the functions of `due.rt` give: the highest routine of a mask, all routines, the callers of a routine.
-use Rattle.std.specs.Prelude.{◌≡◌, ◌⊎◌, List, ℕ, ◌+◌, ◌^◌, ◌≤◌, ◌<◌, length, get_or}
+-- What the functions of `due.rt` give: the highest routine of a mask, one taken off it, all routines, the callers of a
+-- routine.
+use Rattle.std.specs.Prelude.{◌≡◌, ◌≢◌, ◌⊎◌, List, ℕ, ◌+◌, ◌^◌, ◌≤◌, ◌<◌, length, get_or, Option, MatchOption}
+use Rattle.table.specs.Constants.{most_routines}
 use Rattle.grid.specs.Rows.{Has, Bits}
 use Rattle.settle.specs.Reach.{CallBit}
 
@@ -7,6 +9,18 @@ use Rattle.settle.specs.Reach.{CallBit}
 pub record Highest (mask r : ℕ) : Type 0 where
   pub low : 2 ^ r ≤ mask
   pub high : mask < 2 ^ (r + 1)
+
+-- routine r is taken off the mask, as its highest, and `left` has the others
+pub record Taken (mask r left : ℕ) : Type 0 where
+  pub bit : Has mask r
+  pub routine : r < most_routines
+  pub others : Bits left (λ q. (q ≢ r) × Has mask q)
+  pub lower : (q : ℕ) → Has left q → q < r
+  pub less : left < mask
+
+-- a step over the routines of a mask: the highest is taken off it, and there is none where it has none
+abbrev pub Takes : ℕ → Option ℕ → ℕ → Type 0
+Takes mask r left = MatchOption r ((mask ≡ 0) × (left ≡ 0)) (λ q. Taken mask q left)
 
 -- m has all routines below n
 pub record All (n m : ℕ) : Type 0 where

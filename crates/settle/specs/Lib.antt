@@ -3,4 +3,5 @@ pub mod Reach
 pub mod Due
 pub mod Settle
 pub mod Bodies
+pub mod Source
 pub mod Laws

@@ -1,17 +1,41 @@
 // The routines whose rows are due, as bits.
 ghost use Rattle.std.specs.Prelude.{◌≤◌, ◌<◌, length};
+ghost use Rattle.std.specs.Iterator.{at_most};
 ghost use Rattle.table.specs.Constants.{most_routines};
 ghost use Rattle.grid.specs.Rows.{Has};
-ghost use Rattle.settle.specs.Due.{Highest, All, Below, CallerAdded, Callers};
+ghost use Rattle.settle.specs.Due.{Highest, All, Below, CallerAdded, Callers, Takes};
 
 use table::limits::MOST_ROUTINES;
 
 // The highest routine of a mask.
+#[inline]
 pub fn highest(mask: u64) -> usize
     requires { 0 < mask }
     ensures { Highest mask result }
 {
-    (63 - u64::leading_zeros(mask)) as usize
+    (63 - mask.leading_zeros()) as usize
+}
+
+// The routines of a mask, the highest first.
+#[derive(Clone, Copy)]
+pub struct Routines(pub u64);
+
+impl Iterator for Routines {
+    type Item = usize;
+
+    ghost next_gives = { λ s r t. Takes s.0 r t.0 };
+
+    ghost remaining = { λ s. at_most s.0 };
+
+    #[inline]
+    fn next(&mut self) -> Option<usize> {
+        if self.0 == 0 {
+            return None;
+        }
+        let r = highest(self.0);
+        self.0 -= 1 << r;
+        Some(r)
+    }
 }
 
 // The routine of a mask that is next in a sweep downwards past `last`: routine 0 is left for when no other is due.
@@ -19,7 +43,7 @@ pub fn next_due(left: u64, last: usize) -> usize
     requires { (0 < left) × (last < most_routines) }
     ensures { Has left result }
 {
-    let below = left % (1 << (last as u64));
+    let below = left % (1 << last);
     if 1 < below {
         highest(below)
     } else {
@@ -32,11 +56,9 @@ pub fn all(n: usize) -> u64
     requires { n ≤ most_routines }
     ensures { All n result }
 {
-    let mut mask = 0u64;
-    let mut r = 0usize;
-    while r < n {
-        mask = mask + (1 << (r as u64));
-        r = r + 1;
+    let mut mask = 0;
+    for r in 0..n {
+        mask += 1 << r;
     }
     mask
 }
@@ -46,12 +68,8 @@ fn add_caller(callers: &mut [u64; MOST_ROUTINES], mask: u64, r: usize)
     requires { (r < most_routines) × Below callers.old r }
     ensures { CallerAdded callers.old mask r callers.new }
 {
-    let mut left = mask;
-    while left != 0 {
-        let q = highest(left);
-        let old = callers[q];
-        callers[q] = old | (1 << (r as u64));
-        left = left - (1 << (q as u64));
+    for q in Routines(mask) {
+        callers[q] |= 1 << r;
     }
 }
 
@@ -60,9 +78,7 @@ pub fn add_callers(calls: &[u64], callers: &mut [u64; MOST_ROUTINES])
     requires { (length calls.now ≤ most_routines) × Below callers.old 0 }
     ensures { Callers calls.now callers.new }
 {
-    let mut r = 0usize;
-    while r < calls.len() {
-        add_caller(callers, calls[r], r);
-        r = r + 1;
+    for (r, mask) in calls.iter().enumerate() {
+        add_caller(callers, *mask, r);
     }
 }

@@ -1,3 +1,4 @@
 mod Loops
+mod Copies
 mod Machines
 mod Steps

@@ -1,4 +1,4 @@
--- What the functions over one record do: the record that each gives back.
+-- What the functions over one record do: the record that each leaves.
 use Rattle.std.specs.Prelude.{Bool, true, false, cond, List, ℕ, zero, suc, ◌+◌, ◌*◌, ◌-◌, ◌<◌, ◌≤◌, ltb, length}
 use Rattle.std.specs.Prelude.{get_or, set, replicate}
 use Rattle.table.specs.Constants.{most_names}

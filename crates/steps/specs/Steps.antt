@@ -1,24 +1,30 @@
 -- What one step does to a record and the machine, and what it needs to be safe.
-use Rattle.std.specs.Prelude.{◌≡◌, false, cond, List, ℕ, ◌+◌, ◌-◌, ◌<◌, ◌≤◌, ◌^◌, eqb, leb, ltb, length, get_or}
+use Rattle.std.specs.Prelude.{◌≡◌, true, false, cond, List, ℕ, ◌+◌, ◌-◌, ◌<◌, ◌≤◌, ◌^◌, eqb, leb, ltb, length, get_or}
 use Rattle.table.specs.Constants.{END, NEW, LOCK, FORK, CHOICE, OTHER, CALL, MIRROR, code}
 use Rattle.table.specs.Constants.{most_names, most_bytes, most_routines}
 use Rattle.schedule.specs.Limits.{most_threads, most_locks, second_side}
 use Rattle.steps.specs.declared.thread.Thread.{Thread as Record}
 use Rattle.steps.specs.Records.{level, lock_of, moved_to, finished_as, bound_to, entered_as, called_as, left_to, born_at}
 use Rattle.steps.specs.Records.{Level, Passes}
+use Rattle.steps.specs.declared.machine.Ending.TheVariants.{Beyond}
+use Rattle.steps.specs.declared.machine.Want.TheVariants.{Gone}
 use Rattle.steps.specs.declared.machine.Machine.{Machine}
-use Rattle.steps.specs.declared.Ticked.{Ticked}
-use Rattle.steps.specs.Machines.{beyond_mark, over_as, held_elsewhere, taken_by, given_back, made_one, wants_as, want_at}
-use Rattle.steps.specs.Machines.{settled_as}
+use Rattle.steps.specs.Machines.{is_born, over_as, held_elsewhere, taken_by, given_back, made_one, wants_as, want_at}
+use Rattle.steps.specs.Machines.{settled_as, lock_at, LowWant}
 use Rattle.steps.specs.Machines.{counted_as, starting_as, full_at, crowded_at, Item, Wanting}
 
 -- a record and the machine
+pub record Ticked : Type 0 where
+  pub thread : Record
+  pub machine : Machine
+
+-- the two of them
 abbrev pub pair : Record → Machine → Ticked
 pair t m = record { thread = t; machine = m }
 
 -- a step beyond a limit
 abbrev pub beyond_as : Record → Machine → Ticked
-beyond_as t m = pair t (over_as m beyond_mark)
+beyond_as t m = pair t (over_as m Beyond)
 
 -- a byte that does nothing
 abbrev pub idle_as : List ℕ → Record → Machine → Ticked
@@ -43,7 +49,7 @@ close_as s bs t m =
 abbrev pub end_as : List ℕ → List ℕ → Record → Machine → Ticked
 end_as s bs t m =
     cond (eqb t.depth 0)
-    (pair (finished_as t) (settled_as (wants_as (counted_as m) m.pick (most_locks + 1)) bs)) (close_as s bs t m)
+    (pair (finished_as t) (settled_as (wants_as (counted_as m) m.pick Gone) bs)) (close_as s bs t m)
 
 -- NEW, whose name is x
 abbrev pub new_as : List ℕ → List ℕ → ℕ → Record → Machine → Ticked
@@ -113,7 +119,7 @@ item_as ks s heads links bs t m = item_by ks s heads links bs t m (get_or s t.at
 -- what is done to the record that the machine looks at
 unfoldable pub step_as : List ℕ → List ℕ → List ℕ → List ℕ → List ℕ → Record → Machine → Ticked
 step_as ks s heads links bs t m =
-    cond (eqb m.stage 0) (pair (born_at t m.head m.born) (settled_as m bs))
+    cond (is_born m.stage) (pair (born_at t m.head m.born) (settled_as m bs))
     (cond t.ended (idle_as bs t m) (item_as ks s heads links bs t m))
 
 -- the machine can count a byte and look at every thread
@@ -127,7 +133,7 @@ pub record Goes (s : List ℕ) (u : Record) (m : Machine) : Type 0 where
   pub counts : Counts m
   pub deep : Level u
   pub item : Item s u.at
-  pub wants : want_at s u u.at ≤ most_locks + 1
+  pub wants : LowWant (want_at s u u.at)
 
 -- the innermost frame can be closed
 pub record Closes (s : List ℕ) (t : Record) (m : Machine) : Type 0 where
@@ -137,7 +143,7 @@ pub record Closes (s : List ℕ) (t : Record) (m : Machine) : Type 0 where
   pub returns : top_of t ≡ most_locks + 1 → Goes s (left_to t (get_or t.goes (t.depth - 1) 0)) m
   pub after : top_of t ≡ most_locks → Goes s (left_to t (t.at + 1)) m
   pub held : top_of t < most_locks
-      → (1 ≤ get_or m.count (top_of t) 0) × Goes s (left_to t (t.at + 1)) (given_back m (top_of t))
+      → (1 ≤ (lock_at m (top_of t)).count) × Goes s (left_to t (t.at + 1)) (given_back m (top_of t))
   pub known : top_of t ≤ most_locks + 1
 
 -- a block or an alternative can be opened
@@ -176,7 +182,7 @@ pub record Locks (s : List ℕ) (l : ℕ) (t : Record) (m : Machine) : Type 0 wh
   pub deep : Level t
   pub lock : l < most_locks
   pub near : t.at + 2 < 2 ^ 64
-  pub held : get_or m.count l 0 + 1 < 2 ^ 8
+  pub held : (lock_at m l).count + 1 < 2 ^ 8
   pub goes : held_elsewhere m m.pick l ≡ false → Enters s t m l (t.at + 2) (taken_by m m.pick l)
 
 -- a FORK can be taken
@@ -218,6 +224,6 @@ pub record Items (ks s heads links bs : List ℕ) (t : Record) (m : Machine) : T
 
 -- what the machine asks for can be done to the record that it looks at
 pub record Ready (ks s heads links bs : List ℕ) (t : Record) (m : Machine) : Type 0 where
-  pub births : m.stage ≡ 0 → Wanting m
-  pub counts : (m.stage ≡ 0 → ⊥) → Counts m
-  pub items : (m.stage ≡ 0 → ⊥) → t.ended ≡ false → Items ks s heads links bs t m
+  pub births : is_born m.stage ≡ true → Wanting m
+  pub counts : is_born m.stage ≡ false → Counts m
+  pub items : is_born m.stage ≡ false → t.ended ≡ false → Items ks s heads links bs t m

@@ -20,8 +20,3 @@ pub const ALL_NAMES: usize = (MOST_FRAMES + 1) * MOST_NAMES;
 pub const ALTERNATIVE: u8 = MOST_LOCKS as u8;
 
 pub const CALLED: u8 = MOST_LOCKS as u8 + 1;
-
-// What a thread wants, where it is no lock: nothing, or nothing any more since it has ended.
-pub const FREE: u8 = MOST_LOCKS as u8;
-
-pub const GONE: u8 = MOST_LOCKS as u8 + 1;

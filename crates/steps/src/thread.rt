@@ -1,18 +1,17 @@
-// The record of one thread, and the steps that change it: each takes the record by value and gives the new one back.
+// The record of one thread, and the steps that change it where it lies.
 ghost use Rattle.std.specs.Prelude.{◌≡◌, ◌+◌, ◌*◌, ◌-◌, ◌<◌, ◌≤◌, get_or, set};
 ghost use Rattle.table.specs.Constants.{most_names};
 ghost use Rattle.schedule.specs.Limits.{most_frames};
-ghost use Rattle.steps.specs.Records.{copied, name_at, passed, level, lock_of, moved_to, finished_as, bound_to};
-ghost use Rattle.steps.specs.Records.{entered_as, called_as, left_to, taken, born_at, Room, Level, Passes};
+ghost use Rattle.steps.specs.Records.{name_at, passed, level, lock_of, bound_to};
+ghost use Rattle.steps.specs.Records.{entered_as, called_as, left_to, born_at, Room, Level, Passes};
 
 use crate::limits::{ALL_NAMES, CALLED, MOST_FRAMES};
 use table::limits::MOST_NAMES;
-use table::scope::size;
 
 // One thread: the offset in the body section of its next item, how many frames are open, and whether it has ended.
 // Frame d is of the kind `kinds[d]`: the lock of a LOCK block, ALTERNATIVE, or CALLED, and then it goes on at
 // `goes[d]`. Level 0 is the body or FORK block that it began with, level d + 1 is what frame d opened. The lock that
-// name x stands for at level d is at MOST_NAMES * d + x of `names`.
+// name x stands for at level d is at MOST_NAMES * d + x of `names`. Callers in C lend the records: numbers and arrays.
 #[repr(C)]
 #[derive(Clone, Copy)]
 pub struct Thread {
@@ -24,27 +23,12 @@ pub struct Thread {
     pub names: [u8; ALL_NAMES],
 }
 
-// The names of level d, copied to level d + 1.
-fn copy_names(names: &mut [u8; ALL_NAMES], d: usize)
-    requires { d < most_frames }
-    ensures { names.new ≡ copied names.old d most_names }
-{
-    let from = MOST_NAMES * d;
-    let to = from + MOST_NAMES;
-    let mut j = 0;
-    while j < MOST_NAMES {
-        let l = names[from + j];
-        names[to + j] = l;
-        j = j + 1;
-    }
-}
-
 // The name that parameter j + 1 has in a CALL whose k names stand from `from` on; past them it is name 0.
 fn name_at(s: &[u8], from: usize, k: usize, j: usize) -> usize
     requires { Passes s.now from k }
     ensures { (result ≡ name_at s.now from k j) × (result < most_names) }
 {
-    if j < k { size(s[from + j]) } else { 0 }
+    if j < k { usize::from(s[from + j]) } else { 0 }
 }
 
 // The names of the routine called, at level d + 1.
@@ -57,150 +41,85 @@ fn pass_names(names: &mut [u8; ALL_NAMES], d: usize, s: &[u8], from: usize, k: u
     let to = here + MOST_NAMES;
     names[to] = 0;
     let first = to + 1;
-    let mut j = 0;
-    while j < MOST_NAMES - 1 {
+    for j in 0..MOST_NAMES - 1 {
         let x = name_at(s, from, k, j);
         let l = names[here + x];
         names[first + j] = l;
-        j = j + 1;
     }
 }
 
-// The thread at another offset.
-pub fn moved(t: Thread, at: usize) -> Thread
-    ensures { result ≡ moved_to t at }
-{
-    let mut u = t;
-    u.at = at;
-    u
-}
-
-// The thread once it has ended.
-pub fn finished(t: Thread) -> Thread
-    ensures { result ≡ finished_as t }
-{
-    let mut u = t;
-    u.ended = true;
-    u
-}
-
-// The lock that name x stands for.
-pub fn lock_of(t: Thread, x: usize) -> u8
-    requires { Level t × (x < most_names) }
-    ensures { result ≡ lock_of t x }
-{
-    let d = t.depth;
-    let i = MOST_NAMES * d + x;
-    t.names[i]
-}
-
-// The thread at another offset, where name x stands for the lock l.
-pub fn bound(t: Thread, x: usize, l: u8, at: usize) -> Thread
-    requires { Level t × (x < most_names) }
-    ensures { result ≡ bound_to t x l at }
-{
-    let mut u = t;
-    let d = t.depth;
-    let i = MOST_NAMES * d + x;
-    u.names[i] = l;
-    u.at = at;
-    u
-}
-
-// The thread in a block or an alternative: `kind` is the lock held, or ALTERNATIVE.
-pub fn entered(t: Thread, kind: u8, at: usize) -> Thread
-    requires { Room t }
-    ensures { result ≡ entered_as t kind at }
-{
-    let mut u = t;
-    let d = t.depth;
-    u.kinds[d] = kind;
-    copy_names(&mut u.names, d);
-    u.depth = d + 1;
-    u.at = at;
-    u
-}
-
-// The thread at the head of a routine with k parameters; its names stand in the bytes from `from` on.
-pub fn called(t: Thread, s: &[u8], from: usize, k: usize, head: usize) -> Thread
-    requires { Room t × Passes s.now from k }
-    ensures { result ≡ called_as t s.now from k head }
-{
-    let mut u = t;
-    let d = t.depth;
-    u.kinds[d] = CALLED;
-    u.goes[d] = from + k;
-    pass_names(&mut u.names, d, s, from, k);
-    u.depth = d + 1;
-    u.at = head;
-    u
-}
-
-// What the innermost frame is.
-pub fn top_kind(t: Thread) -> u8
-    requires { (1 ≤ t.depth) × Level t }
-    ensures { result ≡ get_or t.kinds (t.depth - 1) 0 }
-{
-    let d = t.depth - 1;
-    t.kinds[d]
-}
-
-// Where the innermost frame's call goes on.
-pub fn top_goes(t: Thread) -> usize
-    requires { (1 ≤ t.depth) × Level t }
-    ensures { result ≡ get_or t.goes (t.depth - 1) 0 }
-{
-    let d = t.depth - 1;
-    t.goes[d]
-}
-
-// The thread with the innermost frame closed.
-pub fn left(t: Thread, at: usize) -> Thread
-    requires { 1 ≤ t.depth }
-    ensures { result ≡ left_to t at }
-{
-    let mut u = t;
-    u.depth = t.depth - 1;
-    u.at = at;
-    u
-}
-
-// The names given, written to level 0.
-fn take_names(names: &mut [u8; ALL_NAMES], given: &[u8; MOST_NAMES])
-    ensures { names.new ≡ taken names.old given.now most_names }
-{
-    let mut j = 0;
-    while j < MOST_NAMES {
-        names[j] = given[j];
-        j = j + 1;
+impl Thread {
+    // The lock that name x stands for.
+    pub fn lock_of(&self, x: usize) -> u8
+        requires { Level self.now × (x < most_names) }
+        ensures { result ≡ lock_of self.now x }
+    {
+        self.names[MOST_NAMES * self.depth + x]
     }
-}
 
-// A new thread at the head of a block, with the names given; the rest of the record is as it was.
-pub fn newborn(t: Thread, at: usize, names: [u8; MOST_NAMES]) -> Thread
-    ensures { result ≡ born_at t at names }
-{
-    let mut u = t;
-    u.at = at;
-    u.depth = 0;
-    u.ended = false;
-    take_names(&mut u.names, &names);
-    u
-}
-
-// The names at the thread's level.
-pub fn names_of(t: Thread) -> [u8; MOST_NAMES]
-    requires { Level t }
-    ensures { result ≡ level t.names t.depth most_names }
-{
-    let d = t.depth;
-    let from = MOST_NAMES * d;
-    let mut names = [0u8; MOST_NAMES];
-    let mut j = 0;
-    while j < MOST_NAMES {
-        let i = from + j;
-        names[j] = t.names[i];
-        j = j + 1;
+    // The names at the thread's level.
+    pub fn level(&self) -> [u8; MOST_NAMES]
+        requires { Level self.now }
+        ensures { result ≡ level self.now.names self.now.depth most_names }
+    {
+        let from = MOST_NAMES * self.depth;
+        let mut names = [0u8; MOST_NAMES];
+        names.copy_from_slice(&self.names[from..from + MOST_NAMES]);
+        names
     }
-    names
+
+    // The thread goes on at `at`, where name x stands for the lock l.
+    pub fn bind(&mut self, x: usize, l: u8, at: usize)
+        requires { Level self.old × (x < most_names) }
+        ensures { self.new ≡ bound_to self.old x l at }
+    {
+        self.names[MOST_NAMES * self.depth + x] = l;
+        self.at = at;
+    }
+
+    // The thread goes on at `at`, in a block or an alternative: `kind` is the lock held, or ALTERNATIVE.
+    pub fn enter(&mut self, kind: u8, at: usize)
+        requires { Room self.old }
+        ensures { self.new ≡ entered_as self.old kind at }
+    {
+        let d = self.depth;
+        let from = MOST_NAMES * d;
+        let to = from + MOST_NAMES;
+        self.kinds[d] = kind;
+        self.names.copy_within(from..to, to);
+        self.depth = d + 1;
+        self.at = at;
+    }
+
+    // The thread goes on at the head of a routine with k parameters; its names stand in the bytes from `from` on.
+    pub fn enter_call(&mut self, s: &[u8], from: usize, k: usize, head: usize)
+        requires { Room self.old × Passes s.now from k }
+        ensures { self.new ≡ called_as self.old s.now from k head }
+    {
+        let d = self.depth;
+        self.kinds[d] = CALLED;
+        self.goes[d] = from + k;
+        pass_names(&mut self.names, d, s, from, k);
+        self.depth = d + 1;
+        self.at = head;
+    }
+
+    // The thread goes on at `at`, with the innermost frame closed.
+    pub fn leave(&mut self, at: usize)
+        requires { 1 ≤ self.old.depth }
+        ensures { self.new ≡ left_to self.old at }
+    {
+        self.depth -= 1;
+        self.at = at;
+    }
+
+    // A new thread at the head of a block, with the names given; the rest of the record is as it was.
+    pub fn begin(&mut self, at: usize, names: &[u8; MOST_NAMES])
+        ensures { self.new ≡ born_at self.old at names.now }
+    {
+        self.at = at;
+        self.depth = 0;
+        self.ended = false;
+        self.names[..MOST_NAMES].copy_from_slice(names);
+    }
 }

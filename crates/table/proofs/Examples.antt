@@ -10,7 +10,7 @@ use Rattle.table.specs.Program.{program_items}
 use Rattle.table.specs.Encoding.{two_bytes, encode_table}
 use Rattle.table.specs.Check.{refused, accepted, check_table, block_by, block}
 use Rattle.table.specs.Answer.{checked_of}
-use Rattle.table.specs.declared.Checked.TheVariants.{Accepted}
+use Rattle.std.specs.Prelude.{Ok}
 
 -- a table of one routine, from its body
 abbrev one : List ℕ → List ℕ
@@ -88,7 +88,7 @@ unfolding block block_by
 scope_ends = refl
 
 -- what `check` answers to table g
-answers_g : checked_of (check_table bytes_g) ≡ Accepted 2 19
+answers_g : checked_of (check_table bytes_g) ≡ Ok (record { routines = 2; items = 19 })
 unfolding block block_by
 answers_g = refl
 
@@ -97,7 +97,7 @@ abbrev calling : ℕ → List ℕ
 calling n = 1 ∷ (repeated (n / 2 - 1) (6 ∷ 0 ∷ []) ++ (0 ∷ []))
 
 -- 4,096 body bytes are accepted, and 4,097 are not
-full : checked_of (check_table (one (calling 4096))) ≡ Accepted 1 2049
+full : checked_of (check_table (one (calling 4096))) ≡ Ok (record { routines = 1; items = 2049 })
 unfolding block block_by
 full = refl
 

@@ -3,6 +3,7 @@ pub mod Cases
 pub mod Lists
 pub mod Fuel
 pub mod Refusals
+pub mod Numbers
 pub mod Sound
 pub mod Complete
 pub mod Formed

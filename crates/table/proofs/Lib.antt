@@ -2,5 +2,5 @@ pub mod Laws
 mod NameLaws
 mod ReaderLaws
 mod OpeningLaws
-mod HeaderLaws
+mod BodyLaws
 mod Examples

@@ -3,3 +3,5 @@ pub mod ScopeMask
 pub mod Readers
 pub mod Fine
 pub mod Sections
+pub mod Passing
+pub mod Splits

@@ -1,108 +1,91 @@
 // The handler table: whether its bytes are accepted, with how many routines and items, or which refusal comes first.
 #![tactic(auto)]
 
-ghost use Rattle.std.specs.Prelude.{◌≡◌, true};
-ghost use Rattle.table.specs.Check.{small?, bodies, check_table};
+ghost use Rattle.std.specs.Prelude.{◌≡◌, ◌<◌, length, true};
+ghost use Rattle.table.specs.Check.{small?, bodies, sections, check_table};
 ghost use Rattle.table.specs.Answer.{checked_of};
-ghost use Rattle.table.specs.Laws.Readers.{HasCounts};
 
 mod bodies;
 pub mod limits;
 mod reader;
+pub mod refusal;
 pub mod scope;
+pub mod sections;
 
-use bodies::BlockRead;
 use limits::{MOST_BYTES, MOST_PARAMS, MOST_ROUTINES};
-use reader::next_body;
-use scope::{size, wide};
+use reader::Body;
+use refusal::Refusal;
 
-// What checking a table gives: how many routines and items it has, or the refusal's number.
-#[derive(Clone, Copy)]
-pub enum Checked {
-    Accepted(u64, u64),
-    Refused(u64),
+// What is told of a table that is accepted: how many routines and items it has.
+#[derive(Clone, Copy, Debug, PartialEq, Eq)]
+pub struct Accepted {
+    pub routines: u64,
+    pub items: u64,
 }
 
 // Whether no parameter count is above the limit.
 fn small_counts(ks: &[u8]) -> bool
     ensures { result ≡ small? ks.now }
 {
-    let mut i = 0;
-    while i < ks.len() {
-        if MOST_PARAMS < ks[i] {
-            return false;
-        }
-        i = i + 1;
-    }
-    true
+    ks.iter().all(|k| *k <= MOST_PARAMS)
 }
 
 // Reads the bodies of the routines in order; ks has their parameter counts.
-fn read_bodies(ks: &[u8], s: &[u8]) -> Checked
+fn read_bodies(ks: &[u8], s: &[u8]) -> Result<Accepted, Refusal>
     requires { small? ks.now ≡ true }
     ensures { result ≡ checked_of (bodies ks.now ks.now s.now) }
 {
-    let mut r = 0;
     let mut at = 0;
-    let mut items = 0u64;
-    while r < ks.len() {
-        let own = wide(ks[r]);
-        match next_body(s, at, ks, own, items) {
-            BlockRead::Read(next, k) => {
-                at = next;
-                items = k.items;
-            }
-            BlockRead::Bad(e) => {
-                return Checked::Refused(e);
-            }
-        }
-        r = r + 1;
+    let mut items = 0;
+    for own in ks {
+        let end = Body::new(s, at).read(ks, u64::from(*own), items)?;
+        at = end.at;
+        items = end.items;
     }
     if at < s.len() {
-        return Checked::Refused(14);
+        return Err(Refusal::LeftOver);
     }
-    Checked::Accepted(r as u64, items)
+    Ok(Accepted {
+        routines: ks.len() as u64,
+        items,
+    })
 }
 
-// Checks a table of n routines that has all its counts.
-fn check_sections(table: &[u8], n: usize) -> Checked
-    requires { HasCounts table.now n }
-    ensures { result ≡ checked_of (check_table table.now) }
+// Checks what follows the number of routines: their parameter counts ks, and the body count with the bodies behind.
+fn check_sections(ks: &[u8], behind: &[u8]) -> Result<Accepted, Refusal>
+    requires { 0 < length ks.now }
+    ensures { result ≡ checked_of (sections ks.now behind.now) }
 {
-    let ks = &table[1..n + 1];
-    if small_counts(ks) {
-        if table[1] != 0 {
-            return Checked::Refused(4);
-        }
-        let bytes = size(table[n + 1]) + 256 * size(table[n + 2]);
-        if MOST_BYTES < bytes {
-            return Checked::Refused(5);
-        }
-        if table.len() != n + 3 + bytes {
-            return Checked::Refused(6);
-        }
-        read_bodies(ks, &table[n + 3..])
-    } else {
-        Checked::Refused(4)
+    let [low, high, s @ ..] = behind else {
+        return Err(Refusal::ShortHead);
+    };
+    if !small_counts(ks) || ks[0] != 0 {
+        return Err(Refusal::ParamCount);
     }
+    let bytes = usize::from(u16::from_le_bytes([*low, *high]));
+    if MOST_BYTES < bytes {
+        return Err(Refusal::LongBodies);
+    }
+    if s.len() != bytes {
+        return Err(Refusal::BodiesLength);
+    }
+    read_bodies(ks, s)
 }
 
 // Checks a whole table.
-pub fn check(table: &[u8]) -> Checked
+pub fn check(table: &[u8]) -> Result<Accepted, Refusal>
     ensures { result ≡ checked_of (check_table table.now) }
 {
-    if table.len() == 0 {
-        return Checked::Refused(1);
+    let Some((first, rest)) = table.split_first() else {
+        return Err(Refusal::NoBytes);
+    };
+    let n = usize::from(*first);
+    if n == 0 || MOST_ROUTINES < n {
+        return Err(Refusal::RoutineCount);
     }
-    let n = size(table[0]);
-    if n == 0 {
-        return Checked::Refused(2);
+    if rest.len() < n {
+        return Err(Refusal::ShortHead);
     }
-    if MOST_ROUTINES < n {
-        return Checked::Refused(2);
-    }
-    if table.len() < n + 3 {
-        return Checked::Refused(3);
-    }
-    check_sections(table, n)
+    let (ks, behind) = rest.split_at(n);
+    check_sections(ks, behind)
 }

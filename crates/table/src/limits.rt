@@ -12,6 +12,9 @@ pub const MOST_BYTES: usize = 4096;
 // How many blocks are open at one time at most, the body not counted.
 pub const MOST_OPEN: u64 = 16;
 
+// How many levels a body has: itself, and the blocks that may be open at one time.
+pub const LEVELS: usize = MOST_OPEN as usize + 1;
+
 // How many NEW and MIRROR stand in a routine at most.
 pub const MOST_LOCALS: u64 = 8;
 
@@ -30,7 +33,7 @@ pub const ROW_CELLS: usize = ROW_NAMES * ROW_NAMES;
 // How many bytes a row has: its cells and the ring's byte.
 pub const ROW_BYTES: usize = ROW_CELLS + 1;
 
-// The codes.
+// The codes are the bytes of the format: a reader matches on the byte itself, and any other byte is refused.
 pub const END: u8 = 0x00;
 
 pub const NEW: u8 = 0x01;

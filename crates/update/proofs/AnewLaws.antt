@@ -1,6 +1,6 @@
 -- Clearing the rows of a mask, and working out anew the rows that reach a routine.
 use mathlib.Core.Path.{◌≡◌, refl, ◌∙◌}
-use mathlib.Core.Logic.{◌≢◌, inl, inr}
+use mathlib.Core.Logic.{inl, inr}
 use mathlib.Core.List.{List, []}
 use Prim.Native.Nat.{ℕ, ◌+◌, ◌-◌, ◌*◌, ◌/◌, ◌%◌, ◌^◌, ◌≤◌, ◌<◌}
 use native.Mathlib.Nat.{div-add-mod', mod-lt}
@@ -10,6 +10,7 @@ use lib.Count.{count_leading_zeros}
 use lib.Pow.{pow_pos}
 use lib.ListN.{length, get_or}
 use Rattle.table.proofs.Laws.Lists.{body_listed}
+use Rattle.std.specs.Prelude.{Option}
 use Rattle.table.specs.Program.{Program, body}
 use Rattle.table.specs.Laws.ScopeMask.{grows}
 use Rattle.table.proofs.Laws.Sections.{routines}
@@ -19,78 +20,54 @@ use Rattle.grid.proofs.Laws.Masks.{has_zero, has_below}
 use Rattle.rows.specs.Model.{Shaped, Cleared}
 use Rattle.rows.specs.Laws.Cells.{apart}
 use Rattle.rounds.specs.Reaches.{ReachesBy, calls, passes, Touched}
+use Rattle.settle.specs.Due.{Taken}
 use Rattle.settle.specs.Reach.{CallBit, Reachable, main, next, CanReach}
 use Rattle.settle.specs.Settle.{PartlyWith}
 use Rattle.settle.specs.Bodies.{Linked, Rising, Started, Settles}
 use Rattle.settle.specs.Laws.Masks.{has_top, highest_at}
-use Rattle.settle.specs.Laws.Off.{inside, taken, rest, rest_bits, rest_less, rest_below}
 use Rattle.settle.specs.Laws.Cleared.{cleared_with}
 use Rattle.update.specs.Parts.{MaskCleared, CanRework, Reworks}
 
 -- the rows of the mask that are not left are zero
-pub record Clearing (n mask : ℕ) (before after : List ℕ) (left : ℕ) : Type 0 where
+pub record Clearing (mask : ℕ) (before after : List ℕ) (left : ℕ) : Type 0 where
   pub long : length after ≡ length before
   pub left_of : (q : ℕ) → Has left q → Has mask q
-  pub left_below : left < 2 ^ n
   pub zero : (q i : ℕ) → Has mask q → (Has left q → ⊥) → i < 65 → get_or after (65 * q + i) 0 ≡ 0
   pub same : (q i : ℕ) → (Has mask q → ⊥) → i < 65 → get_or after (65 * q + i) 0 ≡ get_or before (65 * q + i) 0
 
--- a row that is left: it is in the buffer, and can be taken off
-pub record AtRow (n : ℕ) (model : List ℕ) (left r : ℕ) : Type 0 where
-  pub small : r < 64
-  pub off : (1 * 2 ^ r) % 18446744073709551616 ≤ left
-  pub there : 65 * r + 65 ≤ length model
-  pub less : left - (1 * 2 ^ r) % 18446744073709551616 < left
+pub clearing_start : (mask : ℕ) (before : List ℕ) → Clearing mask before before mask
+clearing_start mask before = record {
+  long = refl;
+  left_of = λ q h. h;
+  zero = λ q i h m l. absurd (m h);
+  same = λ q i m l. refl;
+}
 
-module _ (n mask : ℕ) (before : List ℕ) (pre : (n ≤ 64) × (mask < 2 ^ n) × (65 * n ≤ length before)) where
-  pub clearing_start : Clearing n mask before before mask
-  clearing_start = record {
-    long = refl;
-    left_of = λ q h. h;
-    left_below = pre.1;
-    zero = λ q i h m l. absurd (m h);
-    same = λ q i m l. refl;
+module _ {mask : ℕ} {before model : List ℕ} {left r rest : ℕ} (go : Clearing mask before model left)
+    (t : Taken left r rest) where
+  -- a row that is left is in the buffer
+  pub there : ((q : ℕ) → Has mask q → 65 * q + 65 ≤ length before) → 65 * r + 65 ≤ length model
+  there room = let e = go.long in let l = room r (go.left_of r t.bit) in omega arith
+
+  pub clearing_turn : {after : List ℕ} → Cleared (65 * r) (65 * r + 65) model after → Clearing mask before after rest
+  clearing_turn {after = after} c = record {
+    long = c.long ∙ go.long;
+    left_of = λ q h. go.left_of q (t.others.to q h).1;
+    zero = λ q i h m l. zero q i h m l (ℕ_discrete q r);
+    same = λ q i m l. c.rest (65 * q + i) (apart q r i (λ e. m (go.left_of q (rw e t.bit))) l) ∙ go.same q i m l;
   }
+    where
+      zero : (q i : ℕ) → Has mask q → (Has rest q → ⊥) → i < 65 → Dec (q ≡ r) → get_or after (65 * q + i) 0 ≡ 0
+      zero q i h m l (yes e) = rw e (c.zero (65 * r + i) (omega arith) (omega arith))
+      zero q i h m l (no ne) = c.rest (65 * q + i) (apart q r i ne l) ∙ go.zero q i h (λ b. m (t.others.from q (ne, b))) l
 
-  module _ (model : List ℕ) (left r : ℕ) (go : Clearing n mask before model left) (bit : Has left r) where
-    pub at_row : AtRow n model left r
-    at_row =
-        let i = inside n left r pre.0 go.left_below bit in
-        let f = pre.0 in
-        let l = pre.2 in
-        let e = go.long in
-        record {
-          small = omega arith;
-          off = taken n left r pre.0 go.left_below bit;
-          there = omega arith;
-          less = rest_less n left r pre.0 go.left_below bit;
-        }
-
-    pub clearing_turn : (after : List ℕ) → Cleared (65 * r) (65 * r + 65) model after
-        → Clearing n mask before after (rest n left r pre.0 go.left_below bit)
-    clearing_turn after c = record {
-      long = c.long ∙ go.long;
-      left_of = λ q h. go.left_of q (off.to q h).1;
-      left_below = rest_below n left r pre.0 go.left_below bit;
-      zero = λ q i h m l. zero q i h m l (ℕ_discrete q r);
-      same = λ q i m l. c.rest (65 * q + i) (apart q r i (λ e. m (go.left_of q (rw e bit))) l) ∙ go.same q i m l;
-    }
-      where
-        off : Bits (rest n left r pre.0 go.left_below bit) (λ j. (j ≢ r) × Has left j)
-        off = rest_bits n left r pre.0 go.left_below bit
-
-        zero : (q i : ℕ) → Has mask q → (Has (rest n left r pre.0 go.left_below bit) q → ⊥) → i < 65
-            → Dec (q ≡ r) → get_or after (65 * q + i) 0 ≡ 0
-        zero q i h m l (yes e) = rw e (c.zero (65 * r + i) (omega arith) (omega arith))
-        zero q i h m l (no ne) = c.rest (65 * q + i) (apart q r i ne l) ∙ go.zero q i h (λ b. m (off.from q (ne, b))) l
-
-  pub clearing_end : (model : List ℕ) (left : ℕ) → left ≡ 0 → Clearing n mask before model left
-      → MaskCleared mask before model
-  clearing_end model left e go = record {
-    long = go.long;
-    zero = λ q i h l. go.zero q i h (λ b. has_zero q (rw e at b)) l;
-    same = go.same;
-  }
+pub clearing_end : {mask : ℕ} {before model : List ℕ} {left : ℕ} → left ≡ 0 → Clearing mask before model left
+    → MaskCleared mask before model
+clearing_end {left = left} e go = record {
+  long = go.long;
+  zero = λ q i h l. go.zero q i h (λ b. has_zero q (rw e at b)) l;
+  same = go.same;
+}
 
 -- the routines that a walk over callers reaches are those that reach r by calls
 module _ (P : Program) (ks s starts callers : List ℕ) (k : Linked P ks s starts callers) (r : ℕ) where
@@ -170,7 +147,7 @@ module _ (P : Program) (ks s starts callers : List ℕ) (k : Linked P ks s start
     }
 
 -- the whole update
-module _ (ks s starts callers : List ℕ) (r : ℕ) (before : List ℕ) (can : CanRework ks s starts callers r before) where
+module _ {ks s starts callers : List ℕ} {r : ℕ} {before : List ℕ} (can : CanRework ks s starts callers r before) where
   pub can_reach : CanReach callers r
   can_reach =
       let e = can.linked.callers_below.0 in
@@ -184,16 +161,14 @@ module _ (ks s starts callers : List ℕ) (r : ℕ) (before : List ℕ) (can : C
             omega arith;
       }
 
-  module _ (mask : ℕ) (fits : mask < 2 ^ 64) (bits : Bits mask (Reachable callers r)) where
-    pub can_clear : (length ks ≤ 64) × (mask < 2 ^ length ks) × (65 * length ks ≤ length before)
-    can_clear =
-        let e = routines can.program ks s can.linked.holds in
-        let f = can.linked.holds.limits.few_routines in
+  module _ {mask : ℕ} (fits : mask < 2 ^ 64) (bits : Bits mask (Reachable callers r)) where
+    pub can_clear : (q : ℕ) → Has mask q → 65 * q + 65 ≤ length before
+    can_clear q h =
         let l = can.long in
-        let b = mask_below can.program ks s starts callers can.linked r mask fits can.listed bits in
-        (omega arith, rw e b, omega arith)
+        let b = bit_listed can.program ks s starts callers can.linked r mask fits can.listed bits q h in
+        omega arith
 
-    module _ (cleared : List ℕ) (clear : MaskCleared mask before cleared) where
+    module _ {cleared : List ℕ} (clear : MaskCleared mask before cleared) where
       partly_start : (P : Program) → Linked P ks s starts callers → Shaped (length P) before
           → PartlyWith P (Has mask) before cleared [] (Has mask)
       partly_start P k shaped =
@@ -224,9 +199,9 @@ module _ (ks s starts callers : List ℕ) (r : ℕ) (before : List ℕ) (can : C
         partly = partly_start can.program can.linked can.shaped;
       }
 
-      pub reworked : (after names : List ℕ) → Settles ks s starts callers mask cleared after names
+      pub reworked : {after : List ℕ} {names : List (Option ℕ)} → Settles ks s starts callers mask cleared after names
           → Reworks ks s starts callers r before after
-      reworked after names st P k shaped =
+      reworked {names = names} st P k shaped =
           let e = routines P ks s k.holds in
           let f = routines can.program ks s can.linked.holds in
           let g = can.listed in

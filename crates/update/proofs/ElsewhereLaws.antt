@@ -126,20 +126,20 @@ module _ (P Q : Program) (ks s t : List ℕ) (at r : ℕ) (p : Holds P ks s) (q 
     )
 
 -- the comparison, where the parts before the bodies are the same, and where they are not
-pub compared_after : (ks s t : List ℕ) (at r : ℕ) (c : Bool) → SameBefore s t at → SameAfter ks s t at c
-    → Compares ks s t at r c
-compared_after ks s t at r c w a P Q p q =
+pub compared_after : (ks s t : List ℕ) (at : ℕ) (c : Bool) → SameBefore s t at → SameAfter ks s t at c
+    → Compares ks s t at c
+compared_after ks s t at c w a P Q r p q =
     answers_map c (only_of P Q ks s t at r p q w) (after_of P Q ks s t at r p q)
     (a P Q r (first_body P Q ks s t at r p q w) q)
 
-pub compared_before : (ks s t : List ℕ) (at r : ℕ) → ¬ SameBefore s t at → Compares ks s t at r false
-compared_before ks s t at r n P Q p q o = n (before_of P Q ks s t at r p q o)
+pub compared_before : (ks s t : List ℕ) (at : ℕ) → ¬ SameBefore s t at → Compares ks s t at false
+compared_before ks s t at n P Q r p q o = n (before_of P Q ks s t at r p q o)
 
-pub can_pass : (ks s t : List ℕ) (at r : ℕ) → CanCompare ks s t at r → SameBefore s t at → CanPass ks s t at
-can_pass ks s t at r can w = record {
-  routine = r;
+pub can_pass : (ks s t : List ℕ) (at : ℕ) → CanCompare ks s t at → SameBefore s t at → CanPass ks s t at
+can_pass ks s t at can w = record {
+  routine = can.routine;
   old = can.old;
-  old_body = first_body can.old can.new ks s t at r can.old_held can.new_body w;
+  old_body = first_body can.old can.new ks s t at can.routine can.old_held can.new_body w;
   new = can.new;
   new_body = can.new_body;
 }

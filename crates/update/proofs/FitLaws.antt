@@ -11,6 +11,9 @@ use lib.Dec.{T, eqb, leb, leb→le, le→leb}
 use borrow.Author.Tests.{eqb-true, eqb-false, lt-ltb, le-ltb}
 use lib.ListN.{length, get_or, set, length-set}
 use lib.Seq.{get_or-set_same, get_or-set_other}
+use lib.ListN.{take, drop}
+use Prim.Native.Nat.{◌-◌}
+use Rattle.std.proofs.lemmas.List.Edits.{get_or-between}
 use Rattle.update.specs.Parts.{Answers, CellFits, needed_for, Needed, outside_of, RowFits}
 use Rattle.update.proofs.ZeroLaws.{ZeroWhere, zero_none, zero_map, zero_or, zero_cell}
 
@@ -80,15 +83,16 @@ cells_more model t r k i bad m l few o small e z =
     go w j h (yes y) = rw y w.1
     go w j h (no n) = w.0 j (omega arith)
 
--- the row, by its cells and its last byte
-pub row_told : (model : List ℕ) (r k n bad : ℕ) (c : Bool) → n ≡ 64 → bad ≡ 0 → ZeroWhere bad (CellsFit model r k n)
-    → Answers c (get_or model (65 * r + 64) 0 ≤ 1) → Answers c (RowFits model r k)
-row_told model r k n bad true e b z l = record { cells = λ i h. z.holds b i (omega arith); last = l }
-row_told model r k n bad false e b z l = λ w. l w.last
-
-pub row_not : (model : List ℕ) (r k n bad : ℕ) → n ≡ 64 → ¬ (bad ≡ 0) → ZeroWhere bad (CellsFit model r k n)
-    → ¬ RowFits model r k
-row_not model r k n bad e b z w = b (z.zero (λ i h. w.cells i (omega arith)))
+-- the same, as code reads the cell from the row
+pub cells_turn : (model t : List ℕ) (r k i j bad m v n : ℕ)
+    → v ≡ get_or (take (65 * r + 65 - 65 * r) (drop (65 * r) model)) i 0 → n ≡ get_or t i 0 → i < length t → j ≡ i + 1
+    → k ≤ 7 → Needed t → ((x : ℕ) → get_or model x 0 < 256) → m ≡ outside_of n k
+    → ZeroWhere bad (CellsFit model r k i) → ZeroWhere (bit_or bad (bit_and v m)) (CellsFit model r k j)
+cells_turn model t r k i j bad m v n ev en l ej few o small em z =
+    let h : i < 64 = let x = o.0 in omega arith in
+    let e : v ≡ get_or model (65 * r + i) 0 = ev ∙ get_or-between model (65 * r) (65 * r + 65) i 0 (omega arith) in
+    let f : m ≡ outside_of (get_or t i 0) k = em ∙ ap (λ (x : ℕ). outside_of x k) en in
+    rw (e, ej) (cells_more model t r k i bad m h few o (small (65 * r + i)) f z)
 
 -- the rows below n fit
 abbrev pub RowsFitBelow : List ℕ → List ℕ → ℕ → Type 0

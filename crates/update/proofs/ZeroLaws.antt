@@ -6,11 +6,11 @@ use Prim.Native.Nat.{ℕ, ◌*◌, ◌/◌, ◌%◌, max, ◌≤◌, ◌<◌}
 use native.Mathlib.Decide.{dec_lt}
 use native.Mathlib.Nat.{mod-eq_of_lt}
 use native.Mathlib.Omega.{arith}
-use lib.Bits.{bit_and, bit_or, bit_xor, and_le_l, and_le_r, and_mask, and_high, or_add_and, xor_add_and, xor_self}
+use lib.Bits.{bit_and, bit_or, and_le_l, and_le_r, and_mask, and_high, or_add_and}
 use lib.Dec.{eqb, ltb}
 use borrow.Author.Tests.{eqb-true, eqb-false, ltb-true, ltb-false}
 use Rattle.update.specs.Answer.{NoPair}
-use Rattle.update.specs.Parts.{Answers, CellFits, needed_for, outside_of}
+use Rattle.update.specs.Parts.{CellFits, needed_for, outside_of}
 
 -- v is 0 where Q holds, and nowhere else
 pub record ZeroWhere (v : ℕ) (Q : Type 0) : Type 0 where
@@ -30,21 +30,6 @@ zero_or v w p q = record {
       (p.holds (omega arith), q.holds (omega arith));
   zero = λ x. let s = or_add_and v w in let a = p.zero x.0 in let b = q.zero x.1 in omega arith;
 }
-
--- two numbers are equal
-pub zero_xor : (a b : ℕ) → ZeroWhere (bit_xor a b) (a ≡ b)
-zero_xor a b = record {
-  holds = λ e. let s = xor_add_and a b in let l = and_le_l a b in let r = and_le_r a b in omega arith;
-  zero = λ e. rw e (xor_self b);
-}
-
--- what a test for 0 tells
-pub zero_answers : (v : ℕ) {Q : Type 0} → ZeroWhere v Q → Answers (eqb v 0) Q
-zero_answers v {Q} z = go (eqb v 0) refl
-  where
-    go : (c : Bool) → eqb v 0 ≡ c → Answers c Q
-    go true e = z.holds (eqb-true v 0 e)
-    go false e = λ q. eqb-false v 0 e (z.zero q)
 
 -- a routine has too few parameters for a pair where no row of it has the pair
 pub too_few : (k a b : ℕ) → k ≤ 7 → NoPair k a b → k < needed_for a b

@@ -1,8 +1,10 @@
 -- What bringing a model up to date answers, and what it leaves in the lent buffer, where one routine is replaced.
-use Rattle.std.specs.Prelude.{◌≡◌, ◌⊎◌, List, ℕ, ◌+◌, ◌*◌, ◌≤◌, ◌<◌, length, get_or}
+use Rattle.std.specs.Prelude.{◌≡◌, ◌⊎◌, List, ℕ, ◌+◌, ◌*◌, ◌≤◌, ◌<◌, length, get_or, Result, Ok, Err}
 use Rattle.table.specs.Constants.{row_names, row_bytes}
 use Rattle.table.specs.Program.{Program, params}
 use Rattle.table.specs.Check.{refused, accepted, check_table}
+use Rattle.table.specs.Refusal.{refusal_number, refusal_of}
+use Rattle.table.specs.declared.refusal.Refusal.{Refusal}
 use Rattle.rules.specs.Label.{several}
 use Rattle.rules.specs.Derived.{Pairs, RowOf}
 use Rattle.rows.specs.Bytes.{cell_byte, last_byte, RowsOf}
@@ -10,8 +12,10 @@ use Rattle.rounds.specs.Reaches.{Touched}
 use Rattle.rounds.specs.Given.{ModelWith}
 use Rattle.rounds.specs.OneBody.{OnlyBody}
 use Rattle.analysis.specs.Answer.{short_buffer, Flag, CellOf}
-use Rattle.update.specs.declared.Updated.{Updated}
-use Rattle.update.specs.declared.Updated.TheVariants.{Done, Refused}
+
+-- what bringing a model up to date answers: done, or the refusal
+abbrev pub Updated : Type 0
+Updated = Result (Unit {0}) Refusal
 
 -- the refusal of tables that differ elsewhere than in the routine's body, or do not have the routine
 abbrev pub other_table : ℕ
@@ -49,15 +53,20 @@ pub record UpToDateFrom (P : Program) (r : ℕ) (before after : List ℕ) : Type
       → get_or after (row_bytes * q + i) 0 ≡ get_or before (row_bytes * q + i) 0
   pub rest : (i : ℕ) → row_bytes * length P ≤ i → get_or after i 0 ≡ get_or before i 0
 
--- a refusal: its number alone, and the buffer as it was
+-- the launcher's number of an answer: 0 for done, or the refusal's
+abbrev pub update_number : Updated → ℕ
+update_number (Ok done) = 0
+update_number (Err r) = refusal_number r
+
+-- the refusal with that number alone, and the buffer as it was
 abbrev pub RefusedBy : ℕ → List ℕ → List ℕ → Updated → Type 0
-RefusedBy e before after answer = (answer ≡ Refused e) × (after ≡ before)
+RefusedBy e before after answer = (answer ≡ Err (refusal_of e)) × (update_number answer ≡ e) × (after ≡ before)
 
 -- the answer where the tables hold P and Q and the rows of P fit the buffer
 pub record Compared (P Q : Program) (r : ℕ) (before after : List ℕ) (answer : Updated) : Type 0 where
   pub refused_other : ¬ OnlyBody P Q r → RefusedBy other_table before after answer
   pub refused_model : OnlyBody P Q r → ¬ Formed P before → RefusedBy bad_model before after answer
-  pub done : OnlyBody P Q r → Formed P before → (answer ≡ Done) × UpToDateFrom Q r before after
+  pub done : OnlyBody P Q r → Formed P before → (answer ≡ Ok tt) × UpToDateFrom Q r before after
 
 -- the answer to an old table, a new one, a routine and a model, with the buffer before and after
 pub record Replaced (old new : List ℕ) (r : ℕ) (before after : List ℕ) (answer : Updated) : Type 0 where
@@ -71,13 +80,8 @@ pub record Replaced (old new : List ℕ) (r : ℕ) (before after : List ℕ) (an
 
 -- a refusal is one of those from 1 to the last
 abbrev pub Fits : Updated → Type 0
-Fits Done = Unit {0}
-Fits (Refused e) = (1 ≤ e) × (e ≤ bad_model)
-
--- the launcher's number of an answer: 0 for done, or the refusal's
-abbrev pub update_number : Updated → ℕ
-update_number Done = 0
-update_number (Refused e) = e
+Fits (Ok done) = Unit {0}
+Fits (Err r) = (1 ≤ refusal_number r) × (refusal_number r ≤ bad_model)
 
 -- the launcher's number for two tables, a routine and a model is that of the answer
 abbrev pub ReplacedAs : List ℕ → List ℕ → ℕ → List ℕ → List ℕ → ℕ → Type 0

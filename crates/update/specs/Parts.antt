@@ -1,10 +1,9 @@
 -- What the inner functions are given, and what they give.
-use Rattle.std.specs.Prelude.{◌≡◌, Bool, true, false, ◌||◌, cond, List, ℕ, suc, ◌+◌, ◌*◌, ◌/◌, ◌%◌, max, ◌≤◌, ◌<◌, eqb, ltb}
+use Rattle.std.specs.Prelude.{◌≡◌, Bool, true, false, ◌||◌, cond, List, ℕ, suc, ◌+◌, ◌*◌, ◌/◌, ◌%◌, max, ◌≤◌, ◌<◌, eqb, ltb, Option}
 use Rattle.std.specs.Prelude.{length, get_or, take, drop}
 use Rattle.table.specs.Constants.{row_names, row_cells, row_bytes}
 use Rattle.table.specs.Program.{Program}
 use Rattle.table.specs.Encoding.{encode_bodies}
-use Rattle.table.specs.Check.{accepted, check_table}
 use Rattle.table.specs.Laws.Sections.{Holds}
 use Rattle.grid.specs.Rows.{Has, Bits}
 use Rattle.rows.specs.Model.{Shaped}
@@ -12,9 +11,7 @@ use Rattle.rounds.specs.Reaches.{Touched}
 use Rattle.rounds.specs.OneBody.{OnlyBody}
 use Rattle.settle.specs.Settle.{PartlyWith}
 use Rattle.settle.specs.Bodies.{BodyOf, Known, Linked}
-use Rattle.analysis.specs.Answer.{short_buffer}
-use Rattle.update.specs.Answer.{NoPair, Compared, RefusedBy}
-use Rattle.update.specs.declared.Updated.{Updated}
+use Rattle.update.specs.Answer.{NoPair, Compared, Updated}
 
 -- what a test answers of a fact
 abbrev pub Answers : Bool → Type 0 → Type 0
@@ -65,7 +62,7 @@ pub record CanRework (ks s starts callers : List ℕ) (r : ℕ) (model : List �
 -- a mask has routine r and those that reach it by calls: their rows are worked out, and the others are given
 pub record Reworked (P : Program) (r : ℕ) (before after : List ℕ) : Type 0 where
   pub mask : ℕ
-  pub names : List ℕ
+  pub names : List (Option ℕ)
   pub touched : Bits mask (Touched P r)
   pub partly : PartlyWith P (Has mask) before after names (λ q. ⊥)
 
@@ -91,16 +88,17 @@ SameAfter ks s t at c =
     (P Q : Program) (r : ℕ) → BodyOf P ks s at r → BodyOf Q ks t at r
     → Answers c (encode_bodies (drop (suc r) P) ≡ encode_bodies (drop (suc r) Q))
 
--- the sections hold programs with the same parameter counts, and the offset is that of routine r in the second
-pub record CanCompare (ks s t : List ℕ) (at r : ℕ) : Type 0 where
+-- the sections hold programs with the same parameter counts, and the offset is that of a routine in the second
+pub record CanCompare (ks s t : List ℕ) (at : ℕ) : Type 0 where
+  pub routine : ℕ
   pub old : Program
   pub old_held : Holds old ks s
   pub new : Program
-  pub new_body : BodyOf new ks t at r
+  pub new_body : BodyOf new ks t at routine
 
 -- whether they differ in that body at most
-abbrev pub Compares : List ℕ → List ℕ → List ℕ → ℕ → ℕ → Bool → Type 0
-Compares ks s t at r c = (P Q : Program) → Holds P ks s → BodyOf Q ks t at r → Answers c (OnlyBody P Q r)
+abbrev pub Compares : List ℕ → List ℕ → List ℕ → ℕ → Bool → Type 0
+Compares ks s t at c = (P Q : Program) (r : ℕ) → Holds P ks s → BodyOf Q ks t at r → Answers c (OnlyBody P Q r)
 
 -- two programs with the same parameter counts, the second surveyed, and the rows fit the buffer
 pub record CanBringKnown (ks s t starts calls : List ℕ) (r : ℕ) (model : List ℕ) : Type 0 where
@@ -117,23 +115,15 @@ abbrev pub BringsKnown :
 BringsKnown ks s t starts calls r before after answer =
     (P Q : Program) → Holds P ks s → Known Q ks t starts calls → Compared P Q r before after answer
 
--- two programs, a routine of the first, and the rows of the first fit the buffer
-pub record CanBring (ks s ls t : List ℕ) (r : ℕ) (model : List ℕ) : Type 0 where
+-- two programs with the same parameter counts, a routine of theirs, and the rows fit the buffer
+pub record CanBring (ks s t : List ℕ) (r : ℕ) (model : List ℕ) : Type 0 where
   pub old : Program
   pub old_held : Holds old ks s
   pub new : Program
-  pub new_held : Holds new ls t
+  pub new_held : Holds new ks t
   pub listed : r < length ks
   pub long : row_bytes * length ks ≤ length model
 
 -- the answer for them
-abbrev pub Brings : List ℕ → List ℕ → List ℕ → List ℕ → ℕ → List ℕ → List ℕ → Updated → Type 0
-Brings ks s ls t r before after answer =
-    (P Q : Program) → Holds P ks s → Holds Q ls t → Compared P Q r before after answer
-
--- the answer to two tables that are accepted
-pub record BringsAccepted (old new : List ℕ) (r : ℕ) (before after : List ℕ) (answer : Updated) : Type 0 where
-  pub short : (P Q : Program) → check_table old ≡ accepted P → check_table new ≡ accepted Q
-      → length before < row_bytes * length P → RefusedBy short_buffer before after answer
-  pub compared : (P Q : Program) → check_table old ≡ accepted P → check_table new ≡ accepted Q
-      → row_bytes * length P ≤ length before → Compared P Q r before after answer
+abbrev pub Brings : List ℕ → List ℕ → List ℕ → ℕ → List ℕ → List ℕ → Updated → Type 0
+Brings ks s t r before after answer = (P Q : Program) → Holds P ks s → Holds Q ks t → Compared P Q r before after answer

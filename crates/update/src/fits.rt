@@ -3,9 +3,10 @@ ghost use Rattle.std.specs.Prelude.{◌≡◌, ℕ, ◌+◌, ◌*◌, ◌≤◌,
 ghost use Rattle.table.specs.Constants.{most_params, row_names, row_bytes};
 ghost use Rattle.update.specs.Parts.{Answers, needed_for, Needed, outside_of, RowFits, RowsFit};
 
+use std::cmp::max;
 use table::limits::{ROW_BYTES, ROW_CELLS, ROW_NAMES};
 
-// More parameters than a routine can have.
+// More parameters than a routine can have: no row has the pair, and one comparison tells it, where an `Option` needs two.
 const NEVER: u8 = ROW_NAMES as u8;
 
 // All bits of a byte, and those above the three labels.
@@ -24,7 +25,7 @@ fn needed_for(a: usize, b: usize) -> u8
     if b == 0 {
         return NEVER;
     }
-    if a < b { b as u8 } else { a as u8 }
+    max(a, b) as u8
 }
 
 // The same for all cells of a row: entry 8 * a + b is for the pair (a, b).
@@ -32,8 +33,8 @@ fn needed() -> [u8; ROW_CELLS]
     ensures { Needed result }
 {
     let mut t = [NEVER; ROW_CELLS];
-    for i in 0..ROW_CELLS {
-        t[i] = needed_for(i / ROW_NAMES, i % ROW_NAMES);
+    for (i, n) in t.iter_mut().enumerate() {
+        *n = needed_for(i / ROW_NAMES, i % ROW_NAMES);
     }
     t
 }
@@ -50,16 +51,12 @@ fn row_fits(model: &[u8], r: usize, k: u8, needed: &[u8; ROW_CELLS]) -> bool
     requires { (row_bytes * r + row_bytes ≤ length model.now) × (k ≤ most_params) × Needed needed.now }
     ensures { Answers result (RowFits model.now r k) }
 {
-    let start = ROW_BYTES * r;
+    let row = &model[ROW_BYTES * r..ROW_BYTES * r + ROW_BYTES];
     let mut bad = 0u8;
-    for i in 0..ROW_CELLS {
-        bad = bad | (model[start + i] & bits_outside(needed[i], k));
+    for (cell, n) in row.iter().zip(needed) {
+        bad |= *cell & bits_outside(*n, k);
     }
-    if bad == 0 {
-        model[start + ROW_CELLS] <= 1
-    } else {
-        false
-    }
+    bad == 0 && row[ROW_CELLS] <= 1
 }
 
 // Whether the rows are ones that the routines with these parameter counts may have.
@@ -68,8 +65,8 @@ pub fn rows_fit(ks: &[u8], model: &[u8]) -> bool
     ensures { Answers result (RowsFit ks.now model.now) }
 {
     let pairs = needed();
-    for r in 0..ks.len() {
-        if !row_fits(model, r, ks[r], &pairs) {
+    for (r, k) in ks.iter().enumerate() {
+        if !row_fits(model, r, *k, &pairs) {
             return false;
         }
     }

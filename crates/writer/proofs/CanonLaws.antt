@@ -1,5 +1,6 @@
 -- What is written is the canonical table.
 use mathlib.Core.Path.{◌≡◌, refl, ap, ◌∙◌}
+use Rattle.std.specs.Prelude.{Option}
 use mathlib.Core.Logic.{inl, inr}
 use mathlib.Core.List.{List, [], ◌∷◌, map}
 use Prim.Native.Nat.{ℕ, zero, suc, ◌+◌, ◌<◌}
@@ -19,7 +20,7 @@ use Rattle.canon.proofs.Laws.Order.{order_reached, reached_order}
 use Rattle.canon.proofs.Laws.Rewrite.{recalled_agree}
 use Rattle.canon.proofs.Laws.Canonical.{calls_resolved}
 use Rattle.order.specs.Items.{items_of}
-use Rattle.rewrite.specs.Writing.{written_all}
+use Rattle.rewrite.specs.Writing.{new_number, written_all}
 use Rattle.rewrite.specs.Laws.Written.{At, written_code, number}
 use Rattle.rewrite.specs.Writing.{at_start, itself16}
 use Rattle.writer.specs.Parts.{texts}
@@ -39,8 +40,8 @@ itself_at : (x : ℕ) → x < 16 → get_or itself16 x 0 ≡ x
 unfolding from
 itself_at x l = let h : get_or itself16 x 0 ≡ 0 + x = from_at 16 0 x l in omega arith
 
-module _ (P : Program) (within : WithinLimits P) (ps : List ℕ)
-    (placed : (r : ℕ) → In r (order P) → get_or ps r 0 ≡ position (order P) r) where
+module _ (P : Program) (within : WithinLimits P) (ps : List (Option ℕ))
+    (placed : (r : ℕ) → In r (order P) → new_number ps r ≡ position (order P) r) where
   at_head_lem : (r : ℕ) → r < length P → At P (params P r) ps 0 (locals (body P r)) (names (params P r)) (λ x. x)
       (params P r + 1) (at_start (params P r))
   at_head_lem r l =

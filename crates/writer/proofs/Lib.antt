@@ -2,4 +2,3 @@ pub mod Laws
 pub mod TableLaws
 pub mod CanonLaws
 pub mod WriteLaws
-pub mod AnswerLaws

@@ -1,20 +1,22 @@
 -- What the functions that write the counts, the bodies and the whole table need and leave.
-use Rattle.std.specs.Prelude.{◌≡◌, List, [], ◌∷◌, ◌++◌, map, ℕ, ◌≤◌, ◌<◌, length, get_or}
+use Rattle.std.specs.Prelude.{Option, List, [], ◌∷◌, ◌++◌, map, ℕ, ◌≤◌, ◌<◌, length, get_or, Result}
 use Rattle.table.specs.Constants.{most_routines, END}
 use Rattle.table.specs.Program.{Program, params, body}
-use Rattle.table.specs.Check.{accepted, check_table}
 use Rattle.table.specs.WellFormed.{In}
 use Rattle.table.specs.Laws.Sections.{Holds}
-use Rattle.append.specs.Appends.{Appends}
-use Rattle.canon.specs.Canonical.{order, position, canonical_table}
+use Rattle.table.specs.declared.refusal.Refusal.{Refusal}
+use Rattle.append.specs.Puts.{Puts}
+use Rattle.append.specs.declared.text.Text.{Text}
+use Rattle.canon.specs.Canonical.{canonical_table}
 use Rattle.order.specs.Items.{items_of}
-use Rattle.order.specs.Standing.{HoldsAt}
+use Rattle.order.specs.Ordering.{list_of, Ordered}
+use Rattle.order.specs.Standing.{HoldsAt, HeldAt}
+use Rattle.order.specs.declared.Order.{Order}
 use Rattle.rewrite.specs.Writing.{written_all, at_start}
 use Rattle.writer.specs.Answer.{WritesOf}
-use Rattle.writer.specs.declared.Written.{Written}
 
 -- the bodies of the routines, rewritten one after the other
-abbrev pub texts : List ℕ → Program → List ℕ → List ℕ
+abbrev pub texts : List (Option ℕ) → Program → List ℕ → List ℕ
 texts ps P [] = []
 texts ps P (r ∷ rs) = written_all ps (at_start (params P r)) (items_of END (body P r)) ++ texts ps P rs
 
@@ -28,40 +30,24 @@ pub record CanCount (ks routines : List ℕ) (p : ℕ) : Type 0 where
   pub few : length routines ≤ most_routines
   pub place : p < 1000
 
--- the routines are those of the program that is held, and there is room for their bodies
-pub record CanWrite (ks s starts places routines : List ℕ) (p : ℕ) : Type 0 where
-  pub program : Program
-  pub holds : HoldsAt program ks s starts
-  pub below : (r : ℕ) → In r routines → r < length program
-  pub few : length routines ≤ most_routines
-  pub place : p < 1000
-  pub places_long : length places ≡ most_routines
+-- the sections hold a program whose bodies start there, and the order is that of this program
+pub record Ready (ks s starts : List ℕ) (o : Order) : Type 0 where
+  pub held : HeldAt ks s starts
+  pub ordered : Ordered ks s starts o
 
--- the bodies of the routines were written
-abbrev pub BodiesWritten : List ℕ → List ℕ → List ℕ → List ℕ → List ℕ → ℕ → List ℕ → List ℕ → ℕ → Type 0
-BodiesWritten ks s starts places routines p before now q =
-    (P : Program) → HoldsAt P ks s starts → Appends p (texts places P routines) before now q
+-- the bodies of the routines met were written at the end of the text a
+abbrev pub BodiesWritten : List ℕ → List ℕ → List ℕ → Order → Text → Text → Type 0
+BodiesWritten ks s starts o a b =
+    (P : Program) → HoldsAt P ks s starts → Puts (texts o.places P (list_of o)) a b
 
--- the routines and places are those of the canonical program, which has m bytes of bodies
-pub record Ready (ks s starts places routines : List ℕ) (m : ℕ) : Type 0 where
-  pub can : CanWrite ks s starts places routines 0
-  pub order_is : (P : Program) → HoldsAt P ks s starts → routines ≡ order P
-  pub placed : (r : ℕ) → In r routines → get_or places r 0 ≡ position routines r
-  pub bytes : (P : Program) → HoldsAt P ks s starts → m ≡ length (texts places P routines)
-
--- the canonical table was written
-abbrev pub TableWritten : List ℕ → List ℕ → List ℕ → List ℕ → List ℕ → ℕ → Type 0
-TableWritten ks s starts before now q =
-    (P : Program) → HoldsAt P ks s starts → Appends 0 (canonical_table P) before now q
+-- the canonical table was written at the end of the text a
+abbrev pub TableWritten : List ℕ → List ℕ → List ℕ → Text → Text → Type 0
+TableWritten ks s starts a b =
+    (P : Program) → HoldsAt P ks s starts → Puts (canonical_table P) a b
 
 -- the answer and the buffer for the program that the sections hold
-abbrev pub WritesAt : List ℕ → List ℕ → List ℕ → List ℕ → List ℕ → Written → Type 0
+abbrev pub WritesAt : List ℕ → List ℕ → List ℕ → List ℕ → List ℕ → Result ℕ Refusal → Type 0
 WritesAt ks s starts before after answer = (P : Program) → HoldsAt P ks s starts → WritesOf P before after answer
 
-abbrev pub WritesHeld : List ℕ → List ℕ → List ℕ → List ℕ → Written → Type 0
+abbrev pub WritesHeld : List ℕ → List ℕ → List ℕ → List ℕ → Result ℕ Refusal → Type 0
 WritesHeld ks s before after answer = (P : Program) → Holds P ks s → WritesOf P before after answer
-
--- the answer and the buffer for a table that was accepted
-abbrev pub WritesAccepted : List ℕ → List ℕ → List ℕ → Written → Type 0
-WritesAccepted table before after answer =
-    (P : Program) → check_table table ≡ accepted P → WritesOf P before after answer

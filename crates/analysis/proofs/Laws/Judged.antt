@@ -1,26 +1,19 @@
 -- What a verdict tells of the table: it is accepted, its rows fit the buffer, and what is left is its model.
-use Rattle.std.specs.Prelude.{◌≡◌, refl, List, ℕ, ◌*◌, ◌≤◌, ◌<◌, length}
+use Rattle.std.specs.Prelude.{◌≡◌, refl, List, ℕ, ◌*◌, ◌≤◌, ◌<◌, length, Ok}
 use Rattle.std.proofs.Math.Decide.{dec_lt}
 use Rattle.std.proofs.Common.{arith}
 use Rattle.table.specs.Constants.{row_bytes}
 use Rattle.table.specs.Program.{Program}
 use Rattle.table.specs.Check.{Outcome, refused, accepted, check_table}
-use Rattle.analysis.specs.Answer.{JudgedAs, Analysed}
-use Rattle.analysis.specs.declared.Share.{Share}
-use Rattle.analysis.specs.declared.Verdict.{Verdict}
-use Rattle.analysis.specs.declared.Answer.TheVariants.{Judged}
+use Rattle.analysis.specs.Answer.{Answer, JudgedAs, Analysed}
+use Rattle.analysis.specs.declared.Judgement.{Judgement}
 
--- one answer is one verdict, one share and one number of rounds
-judged_one : (P : Program) (before after : List ℕ) (v w : Verdict) (s t : Share) (m n : ℕ) → Judged v s m ≡ Judged w t n
-    → JudgedAs P before after w t n → JudgedAs P before after v s m
-judged_one P before after v w s t m n e j =
-    let ev : v ≡ w = cc in
-    let es : s ≡ t = cc in
-    let em : m ≡ n = cc in
-    rw (ev, es, em) j
+-- one answer is one judgement
+judged_one : (P : Program) (before after : List ℕ) (i j : Judgement) → ◌≡◌ {A = Answer} (Ok i) (Ok j)
+    → JudgedAs P before after j → JudgedAs P before after i
+judged_one P before after i j e w = let ej : i ≡ j = cc in rw ej w
 
-module _ (table before after : List ℕ) (v : Verdict) (s : Share) (m : ℕ)
-    (a : Analysed table before after (Judged v s m)) where
+module _ (table before after : List ℕ) (j : Judgement) (a : Analysed table before after (Ok j)) where
   -- the rows of the program fit the buffer
   pub judged_fits : (P : Program) → check_table table ≡ accepted P → row_bytes * length P ≤ length before
   judged_fits P e = by (dec_lt (length before) (row_bytes * length P))
@@ -38,7 +31,5 @@ module _ (table before after : List ℕ) (v : Verdict) (s : Share) (m : ℕ)
       by (accepted P) e = (P, e)
 
   -- what is left is the model of its program, as the answer says
-  pub judged_as : (P : Program) → check_table table ≡ accepted P → JudgedAs P before after v s m
-  judged_as P e =
-      let j = a.judged P e (judged_fits P e) in
-      judged_one P before after v j.0 s j.1 m j.2 j.3 j.4
+  pub judged_as : (P : Program) → check_table table ≡ accepted P → JudgedAs P before after j
+  judged_as P e = let w = a.judged P e (judged_fits P e) in judged_one P before after j w.0 w.1 w.2

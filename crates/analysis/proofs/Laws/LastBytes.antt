@@ -14,7 +14,7 @@ use Rattle.rows.specs.Bytes.{last_byte}
 use Rattle.analysis.specs.Answer.{Flag, Shares, JudgedAs}
 use Rattle.analysis.proofs.Laws.Bytes.{flag_none, flag_false}
 use Rattle.analysis.specs.declared.Share.{Share}
-use Rattle.analysis.specs.declared.Verdict.{Verdict}
+use Rattle.analysis.specs.declared.Judgement.{Judgement}
 
 -- the share is that of P, and its c is the number of reached routines that have a last byte of 0
 pub record SharesBytes (P : Program) (model : List ℕ) (share : Share) : Type 0 where
@@ -23,13 +23,13 @@ pub record SharesBytes (P : Program) (model : List ℕ) (share : Share) : Type 0
 
 -- of a table that is accepted
 pub shares_bytes :
-    (table : List ℕ) (P : Program) (before after : List ℕ) (verdict : Verdict) (share : Share) (m : ℕ)
-    → Bytes table → check_table table ≡ accepted P → JudgedAs P before after verdict share m → SharesBytes P after share
-shares_bytes table P before after verdict share m bytes accepts j =
-    record { shares = j.shares; zeros = count_map to from j.shares.ringless }
+    (table : List ℕ) (P : Program) (before after : List ℕ) (j : Judgement) → Bytes table → check_table table ≡ accepted P
+    → JudgedAs P before after j → SharesBytes P after j.share
+shares_bytes table P before after j bytes accepts w =
+    record { shares = w.shares; zeros = count_map to from w.shares.ringless }
   where
     flag : (r : ℕ) → Reached P r → Flag (last_byte after r) ((x : ℕ) × Ring P r x)
-    flag r h = j.model.last r (reached_within P (well_formed P (sound table P bytes accepts).1) r h)
+    flag r h = w.model.last r (reached_within P (well_formed P (sound table P bytes accepts).1) r h)
 
     to : (r : ℕ) → ReachedRingless P r → Reached P r × (last_byte after r ≡ 0)
     to r h = (h.0, flag_none (last_byte after r) ((x : ℕ) × Ring P r x) (flag r h.0) (λ w. h.1 w.0 w.1))

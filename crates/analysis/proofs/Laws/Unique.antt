@@ -1,6 +1,6 @@
 -- The contract of the analysis leaves nothing free: two answers to one table, and the two buffers left, are equal. So
 -- are the launcher's numbers; a number tells its answer but for the share and the rounds.
-use Rattle.std.specs.Prelude.{◌≡◌, refl, ◌⊎◌, List, ℕ, ◌+◌, ◌*◌, ◌/◌, ◌%◌, ◌≤◌, ◌<◌, length, get_or}
+use Rattle.std.specs.Prelude.{◌≡◌, refl, ◌⊎◌, List, ℕ, ◌+◌, ◌*◌, ◌/◌, ◌%◌, ◌≤◌, ◌<◌, length, get_or, Ok, Err}
 use Rattle.std.proofs.Common.{sym, ap, ◌∙◌, inl, inr, div-add-mod', mod-lt, arith, ext_get_or}
 use Rattle.std.proofs.Math.Decide.{dec_lt}
 use Rattle.table.specs.Program.{Program}
@@ -13,11 +13,12 @@ use Rattle.rounds.proofs.Laws.Steps.{rounds_unique}
 use Rattle.analysis.specs.declared.Share.{Share}
 use Rattle.analysis.specs.declared.Verdict.{Verdict}
 use Rattle.analysis.specs.declared.Verdict.TheVariants.{Clear as SaysClear, Ring as SaysRing}
-use Rattle.analysis.specs.declared.Answer.{Answer}
-use Rattle.analysis.specs.declared.Answer.TheVariants.{Judged, Refused}
+use Rattle.analysis.specs.declared.Judgement.{Judgement}
 use Rattle.table.specs.Constants.{row_bytes}
-use Rattle.analysis.specs.Answer.{Flag, CellOf, Models, Says, Shares, JudgedAs, Analysed, Fits}
-use Rattle.analysis.specs.Answer.{most_rounds, number_of, AnalysedAs, rounds_number, RoundsAs}
+use Rattle.table.specs.Refusal.{refusal_number, refusal_of}
+use Rattle.table.proofs.Laws.Numbers.{refusal_of_number}
+use Rattle.analysis.specs.Answer.{Answer, Flag, CellOf, Models, Says, Shares, JudgedAs, Analysed, Fits}
+use Rattle.analysis.specs.Answer.{most_rounds, Short, verdict_number, number_of, AnalysedAs, rounds_number, RoundsAs}
 
 -- a fact has one flag
 pub flag_unique : (v w : ℕ) (Q : Type 0) → Flag v Q → Flag w Q → v ≡ w
@@ -82,9 +83,9 @@ shares_unique P s t p q =
 
 -- what is left of one buffer is one buffer
 pub judged_unique :
-    (P : Program) (before after after' : List ℕ) (v w : Verdict) (s t : Share) (m n : ℕ)
-    → JudgedAs P before after v s m → JudgedAs P before after' w t n → after ≡ after'
-judged_unique P before after after' v w s t m n p q =
+    (P : Program) (before after after' : List ℕ) (i j : Judgement) → JudgedAs P before after i
+    → JudgedAs P before after' j → after ≡ after'
+judged_unique P before after after' i j p q =
     ext_get_or 0 after after' (p.same_length ∙ sym q.same_length) (λ i h. go i (dec_lt i (row_bytes * length P)))
   where
     go : (i : ℕ) → Dec (i < row_bytes * length P) → get_or after i 0 ≡ get_or after' i 0
@@ -103,26 +104,25 @@ analysed_unique table before after after' answer answer' p q = by (check_table t
     judged P e h =
         let x = p.judged P e h in
         let y = q.judged P e h in
-        let verdicts = verdict_unique P x.0 y.0 x.4.says y.4.says in
-        let shares = shares_unique P x.1 y.1 x.4.shares y.4.shares in
-        let rounds = rounds_unique P x.2 y.2 x.4.rounds y.4.rounds in (
-          judged_unique P before after after' x.0 y.0 x.1 y.1 x.2 y.2 x.4 y.4,
-          cc (x.3, y.3, verdicts, shares, rounds),
-        )
+        let verdicts = verdict_unique P x.0.verdict y.0.verdict x.2.says y.2.says in
+        let shares = shares_unique P x.0.share y.0.share x.2.shares y.2.shares in
+        let rounds = rounds_unique P x.0.rounds y.0.rounds x.2.rounds y.2.rounds in
+        let same : x.0 ≡ y.0 = λ i. record { verdict = verdicts i; share = shares i; rounds = rounds i } in
+        (judged_unique P before after after' x.0 y.0 x.2 y.2, x.1 ∙ ap Ok same ∙ sym y.1)
 
     sized : (P : Program) → check_table table ≡ accepted P → Dec (length before < row_bytes * length P)
         → (after ≡ after') × (answer ≡ answer')
     sized P e (yes lt) =
         let x = p.refused_buffer P e lt in
         let y = q.refused_buffer P e lt in
-        (cc (x.1, y.1), cc (x.0, y.0))
+        (cc (x.2, y.2), cc (x.0, y.0))
     sized P e (no ge) = judged P e (omega arith)
 
     by : (o : Outcome) → check_table table ≡ o → (after ≡ after') × (answer ≡ answer')
     by (refused n) e =
         let x = p.refused_table n e in
         let y = q.refused_table n e in
-        (cc (x.1, y.1), cc (x.0, y.0))
+        (cc (x.2, y.2), cc (x.0, y.0))
     by (accepted P) e = sized P e (dec_lt (length before) (row_bytes * length P))
 
 -- and so are the launcher's numbers
@@ -135,42 +135,62 @@ number_unique table before after after' n m p q =
 
 -- two answers are the same in their verdict
 abbrev pub SameVerdict : Answer → Answer → Type 0
-SameVerdict (Judged v s m) (Judged w t n) = v ≡ w
-SameVerdict (Judged v s m) (Refused y) = ⊥
-SameVerdict (Refused x) (Judged w t n) = ⊥
-SameVerdict (Refused x) (Refused y) = x ≡ y
+SameVerdict (Ok i) (Ok j) = i.verdict ≡ j.verdict
+SameVerdict (Ok i) (Err y) = ⊥
+SameVerdict (Err x) (Ok j) = ⊥
+SameVerdict (Err x) (Err y) = x ≡ y
 
--- the launcher's number tells the answer, but for the share and the rounds
-pub number_tells : (a b : Answer) → Fits a → Fits b → number_of a ≡ number_of b → SameVerdict a b
-number_tells (Judged SaysClear s m) (Judged SaysClear t n) f g e = refl
-number_tells (Judged SaysClear s m) (Judged (SaysRing y) t n) f g e = absurd (omega arith)
-number_tells (Judged SaysClear s m) (Refused y) f g e = let l = g.0 in absurd (omega arith)
-number_tells (Judged (SaysRing x) s m) (Judged SaysClear t n) f g e = absurd (omega arith)
-number_tells (Judged (SaysRing x) s m) (Judged (SaysRing y) t n) f g e =
-    let l = f.0.1 in
-    let k = g.0.1 in
+-- the number of a verdict is 0 or, of a ring, 65,536 and more, and at most that of routine 63 and name 15
+verdict_few : (v : Verdict) → Short v → (verdict_number v ≡ 0) ⊎ ((65536 ≤ verdict_number v) × (verdict_number v ≤ 130528))
+verdict_few SaysClear f = inl refl
+verdict_few (SaysRing x) f = let l = f.0 in let k = f.1 in inr (omega arith, omega arith)
+
+-- and tells the verdict
+verdict_tells : (v w : Verdict) → Short v → Short w → verdict_number v ≡ verdict_number w → v ≡ w
+verdict_tells SaysClear SaysClear f g e = refl
+verdict_tells SaysClear (SaysRing y) f g e = absurd (omega arith)
+verdict_tells (SaysRing x) SaysClear f g e = absurd (omega arith)
+verdict_tells (SaysRing x) (SaysRing y) f g e =
+    let l = f.1 in
+    let k = g.1 in
     let r : x.routine ≡ y.routine = omega arith in
     let e' : x.name ≡ y.name = omega arith in
     λ i. SaysRing (record { routine = r i; name = e' i })
-number_tells (Judged (SaysRing x) s m) (Refused y) f g e = let l = g.1 in absurd (omega arith)
-number_tells (Refused x) (Judged SaysClear t n) f g e = let l = f.0 in absurd (omega arith)
-number_tells (Refused x) (Judged (SaysRing y) t n) f g e = let l = f.1 in absurd (omega arith)
-number_tells (Refused x) (Refused y) f g e = e
+
+-- no verdict has the number of a refusal
+no_refusal : (v : Verdict) (n : ℕ) → Short v → (1 ≤ n) × (n ≤ 15) → verdict_number v ≡ n → ⊥
+no_refusal v n f g e = by (verdict_few v f)
+  where
+    by : (verdict_number v ≡ 0) ⊎ ((65536 ≤ verdict_number v) × (verdict_number v ≤ 130528)) → ⊥
+    by (inl z) = let a = g.0 in omega arith
+    by (inr w) = let a = g.1 in let b = w.0 in omega arith
+
+-- the launcher's number tells the answer, but for the share and the rounds
+pub number_tells : (a b : Answer) → Fits a → Fits b → number_of a ≡ number_of b → SameVerdict a b
+number_tells (Ok i) (Ok j) f g e = verdict_tells i.verdict j.verdict f.0 g.0 e
+number_tells (Ok i) (Err y) f g e = no_refusal i.verdict (refusal_number y) f.0 g e
+number_tells (Err x) (Ok j) f g e = no_refusal j.verdict (refusal_number x) g.0 f (sym e)
+number_tells (Err x) (Err y) f g e = sym (refusal_of_number x) ∙ ap refusal_of e ∙ refusal_of_number y
 
 -- it is 0 for clear
-pub clear_number : (s : Share) (m : ℕ) → number_of (Judged SaysClear s m) ≡ 0
+pub clear_number : (s : Share) (m : ℕ) → number_of (Ok (record { verdict = SaysClear; share = s; rounds = m })) ≡ 0
 clear_number s m = refl
 
 -- for a ring it has the routine and the name
 pub ring_number : (r x : ℕ) (s : Share) (m : ℕ)
-    → number_of (Judged (SaysRing (record { routine = r; name = x })) s m) ≡ 65536 + 1024 * r + 32 * x
+    → number_of (Ok (record { verdict = SaysRing (record { routine = r; name = x }); share = s; rounds = m }))
+    ≡ 65536 + 1024 * r + 32 * x
 ring_number r x s m = refl
 
 -- it is 0 to 15 or, of a ring, 65,536 and more, and at most that of routine 63 and name 15
 pub number_few : (a : Answer) → Fits a → (number_of a ≤ 15) ⊎ ((65536 ≤ number_of a) × (number_of a ≤ 130528))
-number_few (Judged SaysClear s m) f = inl (omega arith)
-number_few (Judged (SaysRing x) s m) f = let l = f.0.0 in let k = f.0.1 in inr (omega arith, omega arith)
-number_few (Refused e) f = inl f.1
+number_few (Ok j) f = by (verdict_few j.verdict f.0)
+  where
+    by : (verdict_number j.verdict ≡ 0) ⊎ ((65536 ≤ verdict_number j.verdict) × (verdict_number j.verdict ≤ 130528))
+        → (verdict_number j.verdict ≤ 15) ⊎ ((65536 ≤ verdict_number j.verdict) × (verdict_number j.verdict ≤ 130528))
+    by (inl z) = inl (omega arith)
+    by (inr w) = inr w
+number_few (Err r) f = inl f.1
 
 -- the numbers of rounds are equal too, and the same model is left as where the verdict is asked for
 pub rounds_number_unique :
@@ -189,5 +209,5 @@ same_model table before after after' n m p q =
 -- it is 1 to 15 or 65,536 and more, and at most that of the most rounds
 pub rounds_number_few : (a : Answer) → Fits a
     → (rounds_number a ≤ 15) ⊎ ((65536 ≤ rounds_number a) × (rounds_number a ≤ 65536 + most_rounds))
-rounds_number_few (Judged v s m) f = let l = f.1 in inr (omega arith, omega arith)
-rounds_number_few (Refused e) f = inl f.1
+rounds_number_few (Ok j) f = let l = f.1 in inr (omega arith, omega arith)
+rounds_number_few (Err r) f = inl f.1

@@ -6,19 +6,20 @@ use Rattle.analysis.proofs.judge_surveyed.Goals as goal
 pub add_callers-requires : goal.add_callers-requires
 add_callers-requires c =
     let a = c.args in
-    (few_calls a.ks.now a.s.now a.starts.now a.calls.now a.model.now c.requires, no_callers)
+    (few_calls a.t.now.counts.now a.t.now.bodies.now a.starts.now a.calls.now a.model.now c.requires, no_callers)
 
 pub in_rounds-rounds-requires : goal.in_rounds-rounds-requires
 in_rounds-rounds-requires c =
     let a = c.args in
     let m = c.add_callers in
-    can_begin a.ks.now a.s.now a.starts.now a.calls.now m.new.callers m.ensures a.model.now c.requires
+    can_begin a.t.now.counts.now a.t.now.bodies.now a.starts.now a.calls.now m.new.callers m.ensures a.model.now
+    c.requires
 
 pub returns : goal.returns
 returns c =
     let a = c.args in
     let m = c.add_callers in
     let t = c.in_rounds-rounds in
-    let j = c.judgement_of in
-    judged_known a.ks.now a.s.now a.starts.now a.calls.now m.new.callers m.ensures a.model.now t.new.model
-    t.new.names t.result t.ensures j.result.verdict j.result.share j.result.rounds j.ensures
+    let j = c.of in
+    judged_known a.t.now.counts.now a.t.now.bodies.now a.starts.now a.calls.now m.new.callers m.ensures a.model.now
+    t.new.model t.new.names t.result t.ensures j.result j.ensures.pronounces j.ensures.counts

@@ -1,16 +1,15 @@
 -- What the functions that judge a program are given, and what they give.
-use Rattle.std.specs.Prelude.{ℕ, ◌*◌, ◌≤◌, List, length}
+use Rattle.std.specs.Prelude.{ℕ, ◌*◌, ◌≤◌, List, length, Option, Ok}
 use Rattle.table.specs.Constants.{row_bytes}
 use Rattle.table.specs.Program.{Program}
 use Rattle.table.specs.Laws.Sections.{Holds}
 use Rattle.settle.specs.Settle.{AllFresh}
 use Rattle.settle.specs.Bodies.{Known}
-use Rattle.analysis.specs.Answer.{most_rounds, Says, Shares, Short, JudgedAs}
-use Rattle.analysis.specs.declared.Share.{Share}
-use Rattle.analysis.specs.declared.Verdict.{Verdict}
+use Rattle.analysis.specs.Answer.{Fits, Says, Shares, Short, JudgedAs}
+use Rattle.analysis.specs.declared.Judgement.{Judgement}
 
 -- the rows in the buffer are those of the least model, and the list has the ring names
-pub record Finished (calls model names : List ℕ) : Type 0 where
+pub record Finished (calls model : List ℕ) (names : List (Option ℕ)) : Type 0 where
   pub program : Program
   pub ks : List ℕ
   pub s : List ℕ
@@ -21,10 +20,10 @@ pub record Finished (calls model names : List ℕ) : Type 0 where
   pub fresh : AllFresh program before model names
 
 -- the verdict and the share are true of the program whose rows are in the buffer
-abbrev pub Pronounces : List ℕ → List ℕ → List ℕ → Verdict → Share → Type 0
-Pronounces calls model names verdict share =
+abbrev pub Pronounces : List ℕ → List ℕ → List (Option ℕ) → Judgement → Type 0
+Pronounces calls model names j =
     (P : Program) (ks s starts before : List ℕ) → Known P ks s starts calls → AllFresh P before model names
-    → Says P verdict × Shares P share × Short verdict
+    → Says P j.verdict × Shares P j.share × Short j.verdict
 
 -- a program was surveyed, and its rows fit the buffer
 pub record CanJudgeKnown (ks s starts calls model : List ℕ) : Type 0 where
@@ -33,10 +32,10 @@ pub record CanJudgeKnown (ks s starts calls model : List ℕ) : Type 0 where
   pub long : row_bytes * length program ≤ length model
 
 -- the program that was surveyed is judged
-abbrev pub JudgesKnown : List ℕ → List ℕ → List ℕ → List ℕ → List ℕ → List ℕ → Verdict → Share → ℕ → Type 0
-JudgesKnown ks s starts calls before after verdict share m =
+abbrev pub JudgesKnown : List ℕ → List ℕ → List ℕ → List ℕ → List ℕ → List ℕ → Judgement → Type 0
+JudgesKnown ks s starts calls before after j =
     (P : Program) → Known P ks s starts calls → row_bytes * length P ≤ length before
-    → JudgedAs P before after verdict share m × Short verdict × (m ≤ most_rounds)
+    → JudgedAs P before after j × Fits (Ok j)
 
 -- the sections hold a program whose rows fit the buffer
 pub record CanJudge (ks s model : List ℕ) : Type 0 where
@@ -45,7 +44,7 @@ pub record CanJudge (ks s model : List ℕ) : Type 0 where
   pub long : row_bytes * length program ≤ length model
 
 -- the program is judged
-abbrev pub Judges : List ℕ → List ℕ → List ℕ → List ℕ → Verdict → Share → ℕ → Type 0
-Judges ks s before after verdict share m =
+abbrev pub Judges : List ℕ → List ℕ → List ℕ → List ℕ → Judgement → Type 0
+Judges ks s before after j =
     (P : Program) → Holds P ks s → row_bytes * length P ≤ length before
-    → JudgedAs P before after verdict share m × Short verdict × (m ≤ most_rounds)
+    → JudgedAs P before after j × Fits (Ok j)

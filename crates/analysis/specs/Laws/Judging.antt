@@ -1,5 +1,5 @@
 -- What the functions of `judging.rt` give: the routines with a ring, the lowest of them, the verdict, and the share.
-use Rattle.std.specs.Prelude.{◌≡◌, List, ℕ, ◌*◌, ◌/◌, ◌%◌, ◌<◌, get_or}
+use Rattle.std.specs.Prelude.{◌≡◌, List, ℕ, ◌*◌, ◌/◌, ◌%◌, ◌<◌, get_or, Option, Some, None, IsSome}
 use Rattle.table.specs.Constants.{most_routines}
 use Rattle.grid.specs.Rows.{Has, Bits}
 use Rattle.rows.specs.Bytes.{RingByte}
@@ -20,11 +20,15 @@ pub record Lowest (mask r : ℕ) : Type 0 where
   pub bit : Has mask r
   pub lowest : (q : ℕ) → q < r → Has mask q → ⊥
 
+-- the list has a ring name for each routine of the mask
+abbrev pub AllNamed : ℕ → List (Option ℕ) → Type 0
+AllNamed rings names = (r : ℕ) → Has rings r → IsSome (get_or names r None)
+
 -- the verdict where the routines with a ring are those of the mask, and the list has the ring names
-abbrev pub Tells : ℕ → List ℕ → Verdict → Type 0
+abbrev pub Tells : ℕ → List (Option ℕ) → Verdict → Type 0
 Tells rings names Clear = rings ≡ 0
 Tells rings names (Ring ring) =
-    Lowest rings ring.routine × (ring.routine < most_routines) × (ring.name ≡ get_or names ring.routine 0)
+    Lowest rings ring.routine × (ring.routine < most_routines) × (get_or names ring.routine None ≡ Some ring.name)
 
 -- the share of c in m, by division
 abbrev pub Divided : ℕ → ℕ → Share → Type 0

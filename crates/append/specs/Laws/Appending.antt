@@ -28,6 +28,15 @@ then {at} {p} {q} {v} {w} {l} {m} {x} f g =
     let b : x ≡ sets (sets l at v) (at + length v) w = rw f.place at (rw f.bytes at g.bytes) in
     record { bytes = b ∙ sym (sets_append v w l at); place = omega (arith, f.place, g.place, length-append v w) }
 
+-- a text in two parts: the first is written, and the second comes after it
+pub first_part : (v l : List ℕ) (at : ℕ) → Appends at v l (sets l at v) (at + length v)
+first_part v l at = record { bytes = refl; place = refl }
+
+pub second_part : (v w : List ℕ) {at p : ℕ} {l x : List ℕ} → Appends at (v ++ w) l x p
+    → Appends (at + length v) w (sets l at v) x p
+second_part v w {at} {p} {l} {x} f =
+    record { bytes = f.bytes ∙ sets_append v w l at; place = omega (arith, f.place, length-append v w) }
+
 -- an equal text
 pub equal_text : {at p : ℕ} {v w l x : List ℕ} → w ≡ v → Appends at v l x p → Appends at w l x p
 equal_text {at} {p} {v} {w} {l} {x} e f = subst (λ (u : List ℕ). Appends at u l x p) (sym e) f

@@ -2,9 +2,7 @@
 use Rattle.byrounds.proofs.TurnLaws.{Midway}
 use Rattle.byrounds.proofs.round.Given as goal
 
-abbrev pub invariant-loop-left : goal.invariant-loop-left
-invariant-loop-left l =
-    Midway l.ks l.s l.starts l.due l.old l.initial.model l.initial.names l.model l.names l.left l.changed l.moved
-
-abbrev pub decreases-loop-left : goal.decreases-loop-left
-decreases-loop-left l = l.left
+abbrev pub invariant-loop-r : goal.invariant-loop-r
+invariant-loop-r l =
+    Midway l.t.sections.counts.now l.t.sections.bodies.now l.t.starts.now l.due l.old l.initial.model l.initial.names
+    l.model l.names l.r-iterator.0 l.changed l.moved

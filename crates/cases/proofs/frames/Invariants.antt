@@ -1,9 +1,6 @@
--- The loop of `frames`: the place stays within the input, and each frame moves it on.
-use Rattle.std.proofs.Common.{length, ◌-◌, ◌≤◌}
+-- The loop of `frames`: each turn takes a frame off the front of the input.
+use Rattle.std.proofs.Common.{length}
 use Rattle.cases.proofs.frames.Given as goal
 
-abbrev pub invariant-loop-at : goal.invariant-loop-at
-invariant-loop-at g l = l.at ≤ length l.s
-
-abbrev pub decreases-loop-at : goal.decreases-loop-at
-decreases-loop-at g l = length l.s - l.at
+abbrev pub decreases-loop-s : goal.decreases-loop-s
+decreases-loop-s g l = length l.s

@@ -1,7 +1,5 @@
 -- `write_table` meets its contract: the table is within its buffer.
-use Rattle.std.proofs.Common.{rules}
-use mathlib.Core.Path.{sym}
-use lib.Seq.{length-take-le}
+use Rattle.std.proofs.Common.{rules, sym, length-take-le}
 use Rattle.dearest.specs.Laws.Dearest.{written_short}
 use Rattle.chain.proofs.write_table.Goals as goal
 

@@ -1,6 +1,6 @@
 -- `put_body` meets its contract: all but the last routine call the next one.
 use Rattle.std.proofs.Common.{arith}
-use Rattle.append.specs.Laws.Appending.{equal_text}
+use Rattle.append.specs.Laws.Putting.{equal_text}
 use Rattle.dearest.specs.Laws.Parts.{body_passing, body_opposing}
 use Rattle.dearest.proofs.put_body.Goals as goal
 

@@ -2,6 +2,7 @@
 use Rattle.std.specs.Prelude.{◌≡◌, refl, ◌⊎◌, List, [], ◌∷◌, ◌++◌, length, get_or, take}
 use Rattle.std.specs.Prelude.{ℕ, zero, suc, ◌+◌, ◌-◌, ◌*◌, ◌/◌, ◌%◌, ◌≤◌, ◌<◌}
 use Rattle.std.proofs.Common.{sym, ap, ◌∙◌, inl, inr, append_assoc, append-nil, arith, add-one, length-append, take_all}
+use Rattle.std.specs.Int.{w16, to_le_bytes}
 use Rattle.table.specs.Constants.{most_routines, END}
 use Rattle.table.specs.Program.{Routine, Program, params, body}
 use Rattle.table.specs.Encoding.{encode, encode_bodies, counts, two_bytes}
@@ -90,6 +91,11 @@ pub bodies_all : (n r : ℕ) {at p : ℕ} {l x : List ℕ} → n ≤ r
 bodies_all n r h f =
     let n-long = chain_long n in
     equal_text (ap encode_bodies (sym (take_all r (chain n) (omega arith)))) f
+
+-- the two bytes of a number, the low one first
+pub low_and_high : (m : ℕ) → m < 65536 → to_le_bytes w16 m ≡ two_bytes m
+low_and_high m h =
+    let high : m / 256 % 256 ≡ m / 256 = omega arith in ap (λ b. m % 256 ∷ b ∷ []) high
 
 -- the whole table, part by part
 pub table_parts : (n m : ℕ) {a b c d e : ℕ} {l₀ l₁ l₂ l₃ l₄ l₅ : List ℕ} → 1 ≤ n → m ≡ 7 * (n - 1) + 17

@@ -10,6 +10,6 @@ pub returns-clause-added : goal.returns-clause-added
 returns-clause-added c = let a = c.args in
     let l : length a.g.now ≡ 16 = c.requires.4.rows in
     let k : length (get_or a.g.now a.a []) ≡ 16 = c.requires.4.columns a.a c.requires.0 in
-    added a.g.now a.a a.b c.kept-k.result (omega arith) (omega arith)
-    a.m (omega arith) (omega arith) c.requires.3
-    c.kept-k.ensures
+    added a.g.now a.a a.b c.kept.result (omega arith) (omega arith)
+    a.m (omega arith) c.requires.3
+    c.kept.ensures

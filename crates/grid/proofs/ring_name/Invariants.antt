@@ -1,5 +1,5 @@
 -- `ring_name` meets its contract: no name passed has a ring.
-use Prim.Native.Nat.{ℕ, ◌<◌, ◌≤◌}
+use Prim.Native.Nat.{ℕ, ◌<◌}
 use Rattle.rules.specs.Label.{several}
 use Rattle.rules.specs.Number.{number}
 use Rattle.grid.specs.Rows.{Has}
@@ -7,4 +7,4 @@ use Rattle.grid.specs.Grid.{cell}
 use Rattle.grid.proofs.ring_name.Given as goal
 
 abbrev pub invariant-loop-x : goal.invariant-loop-x
-invariant-loop-x l = (l.x ≤ 16) × ((y : ℕ) → y < l.x → Has (cell l.g y y) (number several) → ⊥)
+invariant-loop-x l = (y : ℕ) → y < l.x → Has (cell l.g y y) (number several) → ⊥

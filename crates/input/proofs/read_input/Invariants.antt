@@ -2,8 +2,8 @@
 use Rattle.std.proofs.Common.{length, ◌-◌, ◌≤◌}
 use Rattle.input.proofs.read_input.Given as goal
 
-abbrev pub invariant-loop-done : goal.invariant-loop-done
-invariant-loop-done l = l.done ≤ length l.buf
+abbrev pub invariant-loop-size : goal.invariant-loop-size
+invariant-loop-size l = l.size ≤ length l.buf
 
-abbrev pub decreases-loop-done : goal.decreases-loop-done
-decreases-loop-done l = length l.buf - l.done
+abbrev pub decreases-loop-size : goal.decreases-loop-size
+decreases-loop-size l = length l.buf - l.size

@@ -3,31 +3,31 @@ use Rattle.links.proofs.Leaves.{walking_can, walking_on, walking_less, walking_o
 use Rattle.links.specs.Walks.{begun}
 use Rattle.links.proofs.link_body.Goals as goal
 
-pub link_item-v-requires : goal.link_item-v-requires
-link_item-v-requires c =
+pub link_item-requires : goal.link_item-requires
+link_item-requires c =
     let a = c.args in
-    let l = c.loop-links in
-    walking_can a.ks.now a.s.now (begun a.from a.own) l.w a.links.now l.links l.invariant
-    c.inside.result c.inside.ensures c.loop-links-test.true
+    let l = c.loop-w in
+    walking_can a.t.now.counts.now a.t.now.bodies.now (begun a.from a.own) l.w a.links.now l.links l.invariant
+    c.inside.result c.inside.ensures c.loop-w-test.true
 
-pub loop-links-smaller : goal.loop-links-smaller
-loop-links-smaller c =
+pub loop-w-smaller : goal.loop-w-smaller
+loop-w-smaller c =
     let a = c.args in
-    let l = c.loop-links in
-    walking_less a.ks.now a.s.now (begun a.from a.own) l.w a.links.now l.links l.invariant
-    c.link_item-v.result c.link_item-v.ensures.1
+    let l = c.loop-w in
+    walking_less a.t.now.counts.now a.t.now.bodies.now (begun a.from a.own) l.w a.links.now l.links l.invariant
+    c.link_item.new.self c.link_item.ensures.passed
 
-pub loop-links-preserved : goal.loop-links-preserved
-loop-links-preserved c =
+pub loop-w-preserved : goal.loop-w-preserved
+loop-w-preserved c =
     let a = c.args in
-    let l = c.loop-links in
-    walking_on a.ks.now a.s.now (begun a.from a.own) l.w a.links.now l.links l.invariant
-    c.inside.result c.inside.ensures c.loop-links-test.true c.link_item-v.result
-    c.link_item-v.new.links c.link_item-v.ensures.1 c.link_item-v.ensures.0
+    let l = c.loop-w in
+    walking_on a.t.now.counts.now a.t.now.bodies.now (begun a.from a.own) l.w a.links.now l.links l.invariant
+    c.inside.result c.inside.ensures c.loop-w-test.true c.link_item.new.self
+    c.link_item.new.links c.link_item.ensures.passed c.link_item.ensures.linked
 
 pub returns : goal.returns
 returns c =
     let a = c.args in
-    let l = c.loop-links in
-    walking_over a.ks.now a.s.now (begun a.from a.own) l.w a.links.now l.links l.invariant
-    c.inside.result c.inside.ensures c.loop-links-test.false
+    let l = c.loop-w in
+    walking_over a.t.now.counts.now a.t.now.bodies.now (begun a.from a.own) l.w a.links.now l.links l.invariant
+    c.inside.result c.inside.ensures c.loop-w-test.false

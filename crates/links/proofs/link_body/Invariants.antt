@@ -5,8 +5,8 @@ use lib.ListN.{length}
 use Rattle.links.specs.Walks.{begun}
 use Rattle.links.proofs.link_body.Given as goal
 
-abbrev pub invariant-loop-links : goal.invariant-loop-links
-invariant-loop-links l = Walking l.ks l.s (begun l.from l.own) l.initial.links l.w l.links
+abbrev pub invariant-loop-w : goal.invariant-loop-w
+invariant-loop-w l = Walking l.t.counts.now l.t.bodies.now (begun l.from l.own) l.initial.links l.w l.links
 
-abbrev pub decreases-loop-links : goal.decreases-loop-links
-decreases-loop-links l = length l.s - l.w.at
+abbrev pub decreases-loop-w : goal.decreases-loop-w
+decreases-loop-w l = length l.t.bodies.now - l.w.at

@@ -10,7 +10,7 @@ use Rattle.table.proofs.Laws.Lists.{get_or_in}
 use Rattle.table.specs.Encoding.{encode, Numbered, depth}
 use Rattle.links.specs.Laws.Named.{Named}
 use Rattle.links.specs.Lies.{Section, section, closer, Lies}
-use Rattle.links.specs.declared.Walk.{Walk}
+use Rattle.links.specs.declared.walk.Walk.{Walk}
 use Rattle.links.specs.Walks.{walk, binds?, slot_by, walk_by, links_by, going_by, Passable, Moves, CanLink, Path}
 use Rattle.links.specs.Walks.{done, step}
 use Rattle.links.specs.Laws.Bytes.{op_for, closer_is, drop_inside, drop_here, drop_next, drop_past}
@@ -94,11 +94,7 @@ module _ (ks s heads bs : List ℕ) where
   -- an item that is no CALL can be passed
   passable : (w : Walk) (b : ℕ) → w.at < length s → length s ≤ most_bytes → get_or s w.at 0 ≡ b → (b ≡ code CALL → ⊥)
       → Passable ks s w.at
-  passable w b i h e n = record {
-    inside = i;
-    low = omega (arith, i, h);
-    calls = λ q. absurd (n (sym e ∙ q));
-  }
+  passable w b i h e n = record { here = i; routine = λ q. absurd (n (sym e ∙ q)) }
 
   -- the code and the size of an item that makes a name: MIRROR or NEW
   abbrev made_code : Bool → ℕ
@@ -652,9 +648,8 @@ module _ (ks s heads bs : List ℕ) where
           let k2 = f.named.2 in
           record {
             passable = record {
-              inside = inside;
-              low = omega (arith, i, sh);
-              calls = λ q. (drop_inside s (w.at + 1) r _ bytes1, omega (arith, e, k), omega (arith, e2, k2, i, sh));
+              here = inside;
+              routine = λ q. (drop_inside s (w.at + 1) r _ bytes1, omega (arith, e, k));
             };
             moves = rw is (record {
               levelled = omega (arith, rm);

@@ -1,8 +1,8 @@
 -- The listings of the worked tables g and h, whole, and of a refusal, byte for byte.
-use Rattle.std.specs.Prelude.{◌≡◌, refl, List, [], ◌∷◌, ℕ, ◌+◌, ◌*◌, replicate, set}
+use Rattle.std.specs.Prelude.{◌≡◌, refl, List, [], ◌∷◌, ℕ, ◌+◌, ◌*◌, replicate, set, Ok, Err}
 use Rattle.table.specs.Constants.{row_names, row_bytes}
 use Rattle.analysis.specs.declared.Verdict.TheVariants.{Clear, Ring}
-use Rattle.analysis.specs.declared.Answer.TheVariants.{Judged, Refused}
+use Rattle.table.specs.declared.refusal.Refusal.TheVariants.{NoBytes}
 use Rattle.listing.specs.Text.{digits, each, listing}
 
 -- rows of two routines, all zero
@@ -15,7 +15,7 @@ with_cell rows a b v = set rows (row_bytes * 1 + (row_names * a + b)) v
 
 -- g, whatever the number of rounds
 pub g_listed : (m : ℕ) → listing 2 (with_cell (with_cell (with_cell none 0 1 1) 0 2 1) 2 1 1)
-    (Judged Clear (record { percent = 100; remainder = 0; reached = 2 }) m) ≡
+    (Ok (record { verdict = Clear; share = record { percent = 100; remainder = 0; reached = 2 }; rounds = m })) ≡
     -- routines 2
     114 ∷ 111 ∷ 117 ∷ 116 ∷ 105 ∷ 110 ∷ 101 ∷ 115 ∷ 32 ∷ 50 ∷ 10
     -- pair 1 0 1 1
@@ -34,7 +34,11 @@ g_listed m = refl
 
 -- h
 pub h_listed : (m : ℕ) → listing 2 (with_cell (with_cell (with_cell none 0 1 1) 0 2 5) 1 2 5)
-    (Judged (Ring (record { routine = 0; name = 1 })) (record { percent = 50; remainder = 0; reached = 2 }) m) ≡
+    (Ok (record {
+      verdict = Ring (record { routine = 0; name = 1 });
+      share = record { percent = 50; remainder = 0; reached = 2 };
+      rounds = m;
+    })) ≡
     -- routines 2
     114 ∷ 111 ∷ 117 ∷ 116 ∷ 105 ∷ 110 ∷ 101 ∷ 115 ∷ 32 ∷ 50 ∷ 10
     -- pair 1 0 1 1
@@ -52,7 +56,7 @@ unfolding digits each
 h_listed m = refl
 
 -- an empty table
-pub refusal_listed : listing 0 [] (Refused 1) ≡
+pub refusal_listed : listing 0 [] (Err NoBytes) ≡
     -- refused 1
     114 ∷ 101 ∷ 102 ∷ 117 ∷ 115 ∷ 101 ∷ 100 ∷ 32 ∷ 49 ∷ 10
     ∷ []

@@ -4,7 +4,9 @@ use Rattle.std.proofs.Common.{sym, ap, ◌∙◌, add-one}
 use Rattle.std.proofs.lemmas.List.Edits.{sets}
 use Rattle.std.proofs.Math.Seq.{drop-nil}
 use Rattle.append.specs.Appends.{Appends}
+use Rattle.append.specs.Puts.{Puts}
 use Rattle.append.specs.Laws.Appending.{nothing, then, equal_text}
+use Rattle.append.specs.declared.text.Text.{Text}
 use Rattle.listing.specs.Text.{over, each}
 
 sets_nil : (w : List ℕ) (at : ℕ) → sets [] at w ≡ []
@@ -38,3 +40,10 @@ each_none f at l = nothing at l
 pub each_all : (n i : ℕ) (f : ℕ → List ℕ) {at p : ℕ} {l x : List ℕ} → i ≡ n → Appends at (each i f) l x p
     → Appends at (each n f) l x p
 each_all n i f e g = equal_text (ap (λ k. each k f) (sym e)) g
+
+-- the same of a text in its buffer
+pub puts_more : (i : ℕ) (f : ℕ → List ℕ) {a b c : Text} → Puts (each i f) a b → Puts (f i) b c → Puts (each (i + 1) f) a c
+puts_more i f g h = record { same = h.same ∙ g.same; appends = each_more i f g.appends h.appends }
+
+pub puts_none : (f : ℕ → List ℕ) (t : Text) → Puts (each 0 f) t t
+puts_none f t = record { same = refl; appends = each_none f t.at t.bytes.now }

@@ -7,7 +7,7 @@ use Rattle.std.proofs.Math.ListN.{get_or-append}
 use Rattle.std.proofs.Math.Seq.{take-append_seam}
 use Rattle.std.proofs.Math.Decide.{ℕ_discrete}
 use Rattle.table.proofs.Laws.Lists.{get_or_in}
-use Rattle.pairs.specs.Walks.{Passable, past_item}
+use Rattle.table.specs.Laws.Passing.{Passable, past_item}
 use Rattle.order.specs.Items.{Item, mark, making, mirroring, locking, calling, item_bytes}
 use Rattle.order.specs.Standing.{ItemAt, SomeItem, AnyItem, NameAt, CallAt, call_here, item_at}
 
@@ -87,7 +87,7 @@ at_lock ks s at old (mirroring y, l, i) e = clash s at 7 2 (y ∷ l) i.content e
 at_lock ks s at old (locking x, l, i) e = name_at_lem s at 2 x l i.content i.good
 at_lock ks s at old (calling r xs, l, i) e = clash s at 6 2 (r ∷ (xs ++ l)) i.content e (λ z. omega arith)
 
-pub at_call : (ks s : List ℕ) (at old : ℕ) (ps : List ℕ) → length ks ≤ length ps → SomeItem ks s at old
+pub at_call : {A : Type 0} (ks s : List ℕ) (at old : ℕ) (ps : List A) → length ks ≤ length ps → SomeItem ks s at old
     → get_or s at 0 ≡ 6 → CallAt ks s at ps
 at_call ks s at old ps h (mark b, l, i) e = clash s at b 6 l i.content e i.good.2
 at_call ks s at old ps h (making, l, i) e = clash s at 1 6 l i.content e (λ z. omega arith)

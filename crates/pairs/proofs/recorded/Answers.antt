@@ -1,92 +1,121 @@
 -- `recorded` meets its contract: for each body that the bytes can be, the grid gained what the items passed record.
-use mathlib.Core.Path.{refl, ap}
+use mathlib.Core.Path.{refl, ap, ◌∙◌}
 use native.Mathlib.Omega.{arith}
 use borrow.Author.Rules.{rules}
 use Rattle.grid.proofs.Laws.Square.{square_of}
-use Rattle.pairs.specs.Walks.{Walk}
-use Rattle.pairs.proofs.Recording.{record_start, record_there, record_entries, record_ready}
-use Rattle.pairs.proofs.Recording.{record_lock_ready, record_thread, record_call_ready, record_lock}
-use Rattle.pairs.proofs.Recording.{record_call, record_other}
-use Rattle.pairs.proofs.Recording.{record_less, record_closed, record_end}
+use Rattle.pairs.specs.Walks.{Walk, walk_of, level_of}
+use Rattle.pairs.proofs.Steps.{Going, ready_pass}
+use Rattle.pairs.proofs.Recording.{record_start, record_there, record_entries, record_ready, record_here, record_opened}
+use Rattle.pairs.proofs.Recording.{record_inside, record_call_ready, record_lock, record_other}
+use Rattle.pairs.proofs.Recording.{record_less, record_shrinks, record_called, record_close, record_end}
 use Rattle.pairs.proofs.recorded.Goals as goal
-use Rattle.pairs.proofs.recorded.Goals.{then-b-eq-LOCK, else-b-eq-LOCK+then-b-eq-CALL, else-b-eq-LOCK+else-b-eq-CALL}
 
-pub loop-holders-init : goal.loop-holders-init
-loop-holders-init c = let a = c.args in
-    let f = a.g in (
-      record_start a.ks.now a.k a.s.now a.at a.rows.now f c.selves-roots.result c.requires.2
-          c.selves-roots.ensures,
-      square_of f _ (omega arith) c.well_formed.0.1.1,
-    )
+pub loop-s-init : goal.loop-s-init
+loop-s-init c = let a = c.args in
+    rw (c.new-p.ensures, c.new-v.ensures) (record {
+      gains = record_start a.t.now.counts.now a.k a.t.now.bodies.now a.at a.rows.now a.g c.requires.2;
+      square = square_of a.g _ (omega arith) c.well_formed.0.1.1;
+    })
 
-pub bounds-s-i : goal.bounds-s-i
-bounds-s-i c = record_there c.loop-holders.invariant.0 c.requires.0
+pub bounds-s-p : goal.bounds-s-p
+bounds-s-p c = record_there c.loop-s.invariant.gains c.requires.0
 
-pub returns-then-n-eq0 : goal.returns-then-n-eq0
-returns-then-n-eq0 c = record_end c.loop-holders.invariant.0 c.requires.0 (search rules) (search rules)
+pub returns-then-p-eq0 : goal.returns-then-p-eq0
+returns-then-p-eq0 c =
+    record_end c.loop-s.invariant.gains c.requires.0 c.if-b-eq-END.true c.if-p-eq0.true
 
 pub overflow_add-p : goal.overflow_add-p
-overflow_add-p c = let z = record_there c.loop-holders.invariant.0 c.requires.0 in search rules
+overflow_add-p c = let z = record_there c.loop-s.invariant.gains c.requires.0 in search rules
 
-pub loop-holders-smaller-then-b-eq-END : goal.loop-holders-smaller-then-b-eq-END
-loop-holders-smaller-then-b-eq-END c = let z = record_there c.loop-holders.invariant.0 c.requires.0 in omega arith
+pub loop-s-smaller-then-b-eq-END : goal.loop-s-smaller-then-b-eq-END
+loop-s-smaller-then-b-eq-END c = let z = record_there c.loop-s.invariant.gains c.requires.0 in omega arith
 
-pub loop-holders-preserved-then-b-eq-END : goal.loop-holders-preserved-then-b-eq-END
-loop-holders-preserved-then-b-eq-END c = let l = c.loop-holders in
-    (record_closed l.invariant.0 c.requires.0 (search rules) (omega arith), l.invariant.1)
+pub loop-s-preserved-then-b-eq-END : goal.loop-s-preserved-then-b-eq-END
+loop-s-preserved-then-b-eq-END c = let l = c.loop-s.invariant in record {
+  gains = record_close l.gains c.requires.0 c.if-b-eq-END.true (let n = c.if-p-eq0.false in omega arith);
+  square = l.square;
+}
 
-pub bounds-holders-n : goal.bounds-holders-n
-bounds-holders-n c = let z = record_entries c.loop-holders.invariant.0 c.requires.0 in search rules
-
-pub bounds-threads-n : goal.bounds-threads-n
-bounds-threads-n c = let z = record_entries c.loop-holders.invariant.0 c.requires.0 in search rules
-
-pub offset_bounds-nests-n : goal.offset_bounds-nests-n
-offset_bounds-nests-n c = let z = record_entries c.loop-holders.invariant.0 c.requires.0 in search rules
-
-pub bounds-nests-n : goal.bounds-nests-n
-bounds-nests-n c = let z = record_entries c.loop-holders.invariant.0 c.requires.0 in search rules
-
-pub holder_inside-inside-requires : goal.holder_inside-inside-requires
-holder_inside-inside-requires c = record_lock_ready c.loop-holders.invariant.0 c.requires.0
-
-pub locked-requires : goal.locked-requires
-locked-requires c = let l = c.loop-holders in
-    (record_thread l.invariant.0 c.requires.0, l.invariant.0.small, l.invariant.1)
+pub at-here-requires : goal.at-here-requires
+at-here-requires c = record_entries c.loop-s.invariant.gains c.requires.0
 
 pub called-requires : goal.called-requires
-called-requires c = let l = c.loop-holders in
-    (record_call_ready l.invariant.0 c.requires.0 (search rules) c.requires.1, l.invariant.0.small, l.invariant.1)
+called-requires c =
+    let l = c.loop-s.invariant in
+    (record_call_ready l.gains c.requires.0 c.if-b-eq-CALL.true c.requires.1, l.gains.small, l.square)
 
-pub step-p-requires : goal.step-p-requires
-step-p-requires c = (
-  record_ready c.loop-holders.invariant.0 c.requires.0 (λ e. absurd (c.if-b-eq-END.false e)),
-  record { holder = c.holder_inside-inside.ensures; thread = refl; nest = refl },
-)
+pub past-requires : goal.past-requires
+past-requires c =
+    let g : Going c.args.t.now.bodies.now c.loop-s.p.at c.loop-s.p.top =
+    λ e. absurd (c.if-b-eq-END.false e) in
+    ready_pass c.args.t.now.counts.now c.args.t.now.bodies.now (walk_of c.loop-s.p c.loop-s.v)
+    (record_ready c.loop-s.invariant.gains c.requires.0 g)
 
-pub loop-holders-smaller : goal.loop-holders-smaller
-loop-holders-smaller c = let z = record_less c.loop-holders.invariant.0 c.requires.0 (λ e. absurd (c.if-b-eq-END.false e)) in
-    let e = ap (λ (v : Walk). v.at) c.step-p.ensures in
-    omega arith
+pub loop-s-smaller-then-b-eq-CALL : goal.loop-s-smaller-then-b-eq-CALL
+loop-s-smaller-then-b-eq-CALL c =
+    let g : Going c.args.t.now.bodies.now c.loop-s.p.at c.loop-s.p.top =
+    λ e. absurd (c.if-b-eq-END.false e) in
+    rw c.past.ensures (record_shrinks c.loop-s.invariant.gains c.requires.0 g)
 
-pub loop-holders-preserved : goal.loop-holders-preserved
-loop-holders-preserved c = let l = c.loop-holders in
-    elim c.if-b-eq-LOCK.branch [
-      | then-b-eq-LOCK q ↦
-          rw (c.step-p.ensures, q.g-is) (
-            record_lock l.invariant.0 c.requires.0 _ (λ e. absurd (c.if-b-eq-END.false e)) (search rules)
-                c.holder_inside-inside.ensures q.locked.ensures.gains,
-            q.locked.ensures.square,
-          )
-      | else-b-eq-LOCK+then-b-eq-CALL q ↦
-          rw (c.step-p.ensures, q.g-is) (
-            record_call l.invariant.0 c.requires.0 _ (λ e. absurd (c.if-b-eq-END.false e)) (search rules)
-                q.called.ensures.gains,
-            q.called.ensures.square,
-          )
-      | else-b-eq-LOCK+else-b-eq-CALL q ↦
-          rw (c.step-p.ensures, q.g-is) (
-            record_other l.invariant.0 c.requires.0 (λ e. absurd (c.if-b-eq-END.false e)) (search rules) (search rules),
-            l.invariant.1,
-          )
-    ]
+pub loop-s-preserved-then-b-eq-CALL : goal.loop-s-preserved-then-b-eq-CALL
+loop-s-preserved-then-b-eq-CALL c =
+    let l = c.loop-s.invariant in
+    let g : Going c.args.t.now.bodies.now c.loop-s.p.at c.loop-s.p.top =
+    λ e. absurd (c.if-b-eq-END.false e) in
+    rw c.past.ensures (record {
+      gains = record_called l.gains c.requires.0 _ g c.if-b-eq-CALL.true c.called.ensures.gains;
+      square = c.called.ensures.square;
+    })
+
+pub step-requires : goal.step-requires
+step-requires c =
+    (record_ready c.loop-s.invariant.gains c.requires.0 (λ e. absurd (c.if-b-eq-END.false e)), refl)
+
+pub at-inside-requires : goal.at-inside-requires
+at-inside-requires c =
+    rw (ap (λ (w : Walk). w.top) c.step.ensures)
+    (record_opened c.loop-s.invariant.gains c.requires.0 (λ e. absurd (c.if-b-eq-END.false e)) c.if-b-eq-LOCK.true).0
+
+pub locked-requires : goal.locked-requires
+locked-requires c =
+    let l = c.loop-s.invariant in
+    let g : Going c.args.t.now.bodies.now c.loop-s.p.at c.loop-s.p.top =
+    λ e. absurd (c.if-b-eq-END.false e) in
+    let h = record_here l.gains c.requires.0 in
+    let i = record_inside l.gains c.requires.0 g c.if-b-eq-LOCK.true in
+    let o = record_opened l.gains c.requires.0 g c.if-b-eq-LOCK.true in
+    rw (c.at-here.ensures, c.at-inside.ensures ∙ (ap level_of c.step.ensures ∙ o.1))
+    (h.0, i, h.1, l.gains.small, l.square)
+
+pub loop-s-smaller-then-b-eq-LOCK : goal.loop-s-smaller-then-b-eq-LOCK
+loop-s-smaller-then-b-eq-LOCK c =
+    rw (ap (λ (w : Walk). w.at) c.step.ensures)
+    (record_less c.loop-s.invariant.gains c.requires.0 (λ e. absurd (c.if-b-eq-END.false e)))
+
+pub loop-s-preserved-then-b-eq-LOCK : goal.loop-s-preserved-then-b-eq-LOCK
+loop-s-preserved-then-b-eq-LOCK c =
+    let l = c.loop-s.invariant in
+    let g : Going c.args.t.now.bodies.now c.loop-s.p.at c.loop-s.p.top =
+    λ e. absurd (c.if-b-eq-END.false e) in
+    let o = record_opened l.gains c.requires.0 g c.if-b-eq-LOCK.true in
+    rw c.step.ensures (record {
+      gains = record_lock l.gains c.requires.0 _ g c.if-b-eq-LOCK.true
+          (rw (c.at-here.ensures, c.at-inside.ensures ∙ (ap level_of c.step.ensures ∙ o.1))
+          at c.locked.ensures.gains);
+      square = c.locked.ensures.square;
+    })
+
+pub loop-s-smaller : goal.loop-s-smaller
+loop-s-smaller c =
+    rw (ap (λ (w : Walk). w.at) c.step.ensures)
+    (record_less c.loop-s.invariant.gains c.requires.0 (λ e. absurd (c.if-b-eq-END.false e)))
+
+pub loop-s-preserved : goal.loop-s-preserved
+loop-s-preserved c =
+    let l = c.loop-s.invariant in
+    let g : Going c.args.t.now.bodies.now c.loop-s.p.at c.loop-s.p.top =
+    λ e. absurd (c.if-b-eq-END.false e) in
+    rw c.step.ensures (record {
+      gains = record_other l.gains c.requires.0 g (omega arith) (omega arith);
+      square = l.square;
+    })

@@ -6,10 +6,11 @@ use Rattle.pairs.specs.Walks.{walk_of}
 use Rattle.pairs.proofs.Recording.{Recording}
 use Rattle.pairs.proofs.recorded.Given as goal
 
-abbrev pub invariant-loop-holders : goal.invariant-loop-holders
-invariant-loop-holders l =
-    Recording l.ks l.k l.s l.at l.rows l.initial.g (walk_of l.p l.holders l.threads l.nests l.roots) l.g
-    × Square l.g
+abbrev pub invariant-loop-s : goal.invariant-loop-s
+invariant-loop-s l = record {
+  gains : Recording l.t.counts.now l.k l.t.bodies.now l.at l.rows l.initial.g (walk_of l.p l.v) l.g;
+  square : Square l.g;
+}
 
-abbrev pub decreases-loop-holders : goal.decreases-loop-holders
-decreases-loop-holders l = length l.s - l.p.at
+abbrev pub decreases-loop-s : goal.decreases-loop-s
+decreases-loop-s l = length l.t.bodies.now - l.p.at

@@ -4,8 +4,8 @@ use lib.ListN.{length}
 use Rattle.pairs.proofs.Scanning.{Scanning}
 use Rattle.pairs.proofs.scan.Given as goal
 
-abbrev pub invariant-loop-at : goal.invariant-loop-at
-invariant-loop-at l = Scanning l.ks l.s l.at l.i l.top l.calls
+abbrev pub invariant-loop-s : goal.invariant-loop-s
+invariant-loop-s l = Scanning l.t.counts.now l.t.bodies.now l.at l.i l.top l.calls
 
-abbrev pub decreases-loop-at : goal.decreases-loop-at
-decreases-loop-at l = length l.s - l.i
+abbrev pub decreases-loop-s : goal.decreases-loop-s
+decreases-loop-s l = length l.t.bodies.now - l.i

@@ -4,4 +4,4 @@ use Rattle.pairs.proofs.Scanning.{bit_wide}
 use Rattle.pairs.proofs.with_call.Goals as goal
 
 pub returns : goal.returns
-returns c = bits_or (bits_self c.args.calls) (bit_wide c.args.q c.requires)
+returns c = rw c.from.ensures (bits_or (bits_self c.args.calls) (bit_wide c.args.q c.requires))

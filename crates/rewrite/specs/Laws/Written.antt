@@ -1,5 +1,5 @@
 -- The writing of a body item by item: the bytes are those of the rewritten body.
-use Rattle.std.specs.Prelude.{◌≡◌, refl, List, [], ◌∷◌, ◌++◌, map, ℕ, ◌+◌, ◌<◌, length, get_or, set}
+use Rattle.std.specs.Prelude.{◌≡◌, refl, Option, List, [], ◌∷◌, ◌++◌, map, ℕ, ◌+◌, ◌<◌, length, get_or, set}
 use Rattle.std.proofs.Common.{sym, ap, ◌∙◌, inl, inr, append_assoc, zero-add, arith, eq-eqb, ne_eqb, length-set}
 use Rattle.std.proofs.Common.{get_or-set_same, get_or-set_other}
 use Rattle.std.proofs.Math.Decide.{ℕ_discrete}
@@ -10,13 +10,13 @@ use Rattle.table.specs.Encoding.{encode, Numbered}
 use Rattle.rules.specs.Model.{bind}
 use Rattle.canon.specs.Canonical.{news, plain, recalled}
 use Rattle.order.specs.Items.{Item, mark, making, mirroring, locking, calling, items_of}
-use Rattle.rewrite.specs.Writing.{Known, name_of, after_item, written, after_all, written_all}
+use Rattle.rewrite.specs.Writing.{Known, new_number, name_of, after_item, written, after_all, written_all}
 
 after_append : (e : Known) (ts us : List Item) → after_all e (ts ++ us) ≡ after_all (after_all e ts) us
 after_append e [] us = refl
 after_append e (t ∷ ts) us = after_append (after_item e t) ts us
 
-written_append : (ps : List ℕ) (e : Known) (ts us : List Item)
+written_append : (ps : List (Option ℕ)) (e : Known) (ts us : List Item)
     → written_all ps e (ts ++ us) ≡ written_all ps e ts ++ written_all ps (after_all e ts) us
 written_append ps e [] us = refl
 written_append ps e (t ∷ ts) us =
@@ -95,9 +95,9 @@ names_known s σ e k (x ∷ xs) all =
     cc
 
 -- what is written for the items of a code is the rewritten code, and the names so far stay
-module _ (P : Program) (k : ℕ) (ps : List ℕ) where
+module _ (P : Program) (k : ℕ) (ps : List (Option ℕ)) where
   abbrev pub number : ℕ → ℕ
-  number r = get_or ps r 0
+  number r = new_number ps r
 
   -- the place after m locals, with room for i more
   pub record At (m i : ℕ) (s : List ℕ) (σ : ℕ → ℕ) (n : ℕ) (e : Known) : Type 0 where

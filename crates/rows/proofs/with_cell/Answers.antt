@@ -4,5 +4,5 @@ use Rattle.rows.proofs.with_cell.Goals as goal
 
 pub returns : goal.returns
 returns c = let a = c.args in
-    cell_of_byte a.i a.a a.b a.m c.cell_byte-v.result _ _ _ c.if-a-b.false
-    c.cell_byte-v.ensures c.with_byte.ensures
+    cell_of_byte a.i a.a a.b a.m c.cell_byte.result _ _ _ c.if-a-b.false
+    c.cell_byte.ensures c.with_byte.ensures

@@ -1,9 +1,10 @@
--- `with_ring` meets its contract: a ring name sets the byte, and 16 leaves it.
-use native.Mathlib.Omega.{arith}
+-- `with_ring` meets its contract: a ring name sets the byte.
+use Rattle.std.proofs.Common.{rules}
+use Rattle.std.specs.Prelude.{IsSome}
 use Rattle.rows.proofs.Adding.{name_of_byte}
 use Rattle.rows.proofs.with_ring.Goals as goal
 
-pub returns : goal.returns
-returns c = let a = c.args in
-    let some = c.if-x-eq-MOST_NAMES.false in
-    name_of_byte a.i a.x _ _ _ (let l = c.requires.1 in omega arith) c.with_byte.ensures
+pub returns-then-is_some : goal.returns-then-is_some
+returns-then-is_some c = let a = c.args in
+    let some : IsSome a.ring = search rules in
+    name_of_byte a.i a.ring _ _ _ some c.with_byte.ensures

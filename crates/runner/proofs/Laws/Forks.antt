@@ -14,9 +14,11 @@ use Rattle.steps.specs.declared.thread.Thread.{Thread as Record}
 use Rattle.steps.specs.Records.{level, born_at, moved_to}
 use Rattle.steps.specs.Shown.{blank}
 use Rattle.steps.specs.declared.machine.Machine.{Machine}
-use Rattle.steps.specs.declared.Ticked.{Ticked}
 use Rattle.steps.specs.Machines.{want_at, wants_as, counted_as, starting_as, crowded_at}
 use Rattle.steps.specs.Steps.{beyond_as, fork_as}
+use Rattle.steps.specs.Steps.{Ticked}
+use Rattle.steps.specs.declared.machine.Want.TheVariants.{Free}
+use Rattle.steps.specs.declared.machine.Want.{Want}
 use Rattle.links.specs.Lies.{Section}
 use Rattle.runner.specs.Ticks.{Sized, looked, tick_as, records_after, machine_after}
 use Rattle.links.specs.Lies.{link_at}
@@ -25,7 +27,8 @@ use Rattle.runner.specs.Tracks.{occurs, want_of, SmallWant, written, Tracks}
 use Rattle.runner.proofs.Laws.Items.{same_lock, follows_fork}
 use Rattle.runner.proofs.Laws.Calls.{follows_born}
 use Rattle.runner.proofs.Laws.States.{want_here, small_here, with_thread, written_as, held_same, tracks_step}
-use Rattle.runner.proofs.Laws.States.{want_is, want_small}
+use Rattle.runner.proofs.Laws.States.{not_both, want_is, want_small}
+use Rattle.steps.specs.Machines.{is_born, lock_at}
 use Rattle.runner.proofs.Laws.Settles.{births}
 use Rattle.runner.proofs.Laws.Ticking.{On, tick_beyond}
 use Rattle.runner.proofs.Laws.Turns.{Taking, first_of, second_of, stepped, past_limit, followed, size_of}
@@ -52,8 +55,8 @@ with_more s y = record { threads = s.threads ++ (y ∷ []); made = s.made }
 
 -- a thread is added, whose record is still to be written
 pub tracks_more :
-    (z : Section) (s : State) (ts : List Record) (m : Machine) (at' : ℕ) (names : List ℕ) (w : ℕ) (y : Thread)
-    → Tracks z s ts m → (m.stage ≡ 0 → ⊥) → length s.threads < most_threads → length s.threads < length ts
+    (z : Section) (s : State) (ts : List Record) (m : Machine) (at' : ℕ) (names : List ℕ) (w : Want) (y : Thread)
+    → Tracks z s ts m → is_born m.stage ≡ false → length s.threads < most_threads → length s.threads < length ts
     → w ≡ want_of y → SmallWant y → holds y ≡ []
     → ((u : Record) → Sized (born_at u at' names) → Follows z y (born_at u at' names))
     → Tracks z (with_more s y) ts (starting_as m at' names w)
@@ -72,8 +75,7 @@ tracks_more z s ts m at' names w y tr going few room wy small none fo = record {
     wanted = λ i h. want_by i (ℕ_discrete i (length s.threads)) h;
     small = λ i. small_by i (ℕ_discrete i (length s.threads));
   };
-  owners = tr.owners;
-  counts = tr.counts;
+  locks_long = tr.locks_long;
   wants_long = length-set m.wants m.threads w ∙ tr.wants_long;
 }
   where
@@ -87,7 +89,7 @@ tracks_more z s ts m at' names w y tr going few room wy small none fo = record {
     was = written_as ts m going
 
     size : (i : ℕ) → i < length s.threads → Sized (get_or (written ts m) i blank)
-    size i h = tr.sized i h (λ q. absurd (going q))
+    size i h = tr.sized i h (λ q. absurd (not_both m.stage going q))
 
     below : (i : ℕ) → i < length (s.threads ++ (y ∷ [])) → i ≢ length s.threads → i < length s.threads
     below i h g = let l = more_long s.threads y in omega (arith, h, l, g)
@@ -118,7 +120,7 @@ tracks_more z s ts m at' names w y tr going few room wy small none fo = record {
         (tr.follows i (below i h g) (size i (below i h g)))))
 
     sized_by : (i : ℕ) → Dec (i ≡ length s.threads) → i < length (s.threads ++ (y ∷ []))
-        → (◌≡◌ {A = ℕ} 0 0 → i ≢ m.threads)
+        → (◌≡◌ {A = Bool} true true → i ≢ m.threads)
         → Sized (get_or (set ts m.threads (born_at (get_or ts m.threads blank) at' names)) i blank)
     sized_by i (yes e) h not = absurd (not refl (e ∙ sym tr.threads))
     sized_by i (no g) h not =
@@ -129,7 +131,7 @@ tracks_more z s ts m at' names w y tr going few room wy small none fo = record {
 
     held_by_lem : (u l : ℕ) → l < most_locks → Dec (u ≡ length s.threads)
         → occurs l (holds (get_or (s.threads ++ (y ∷ [])) u ended))
-        ≡ cond (eqb (get_or m.owner l 0) u) (get_or m.count l 0) 0
+        ≡ cond (eqb (lock_at m l).owner u) (lock_at m l).count 0
     held_by_lem u l h (yes e) =
         let past : thread s u ≡ ended = get_or-eq_default s.threads ended (omega (arith, e)) in
         ap (λ (q : ℕ). occurs l (holds (get_or (s.threads ++ (y ∷ [])) q ended))) e
@@ -139,16 +141,16 @@ tracks_more z s ts m at' names w y tr going few room wy small none fo = record {
         ap (λ (v : Thread). occurs l (holds v)) (more_old s.threads y ended u g) ∙ tr.held u l h
 
     want_by : (i : ℕ) → Dec (i ≡ length s.threads) → i < length (s.threads ++ (y ∷ []))
-        → get_or (set m.wants m.threads w) i 0 ≡ want_of (get_or (s.threads ++ (y ∷ [])) i ended)
+        → get_or (set m.wants m.threads w) i Free ≡ want_of (get_or (s.threads ++ (y ∷ [])) i ended)
     want_by i (yes e) h =
         let j : i ≡ m.threads = e ∙ sym tr.threads in
         let k = tr.threads in
         let g = tr.wants_long in
-        ap (λ (q : ℕ). get_or (set m.wants m.threads w) q 0) j
-        ∙ get_or-set_same m.wants m.threads w 0 (omega (arith, k, g, few)) ∙ wy
+        ap (λ (q : ℕ). get_or (set m.wants m.threads w) q Free) j
+        ∙ get_or-set_same m.wants m.threads w Free (omega (arith, k, g, few)) ∙ wy
         ∙ ap want_of (sym (ap (λ (q : ℕ). get_or (s.threads ++ (y ∷ [])) q ended) e ∙ more_new s.threads y ended))
     want_by i (no g) h =
-        get_or-set_other m.wants m.threads i w 0 (λ q. g (q ∙ tr.threads)) ∙ tr.wants.wanted i (below i h g)
+        get_or-set_other m.wants m.threads i w Free (λ q. g (q ∙ tr.threads)) ∙ tr.wants.wanted i (below i h g)
         ∙ ap want_of (sym (more_old s.threads y ended i g))
 
     small_by : (i : ℕ) → Dec (i ≡ length s.threads) → SmallWant (get_or (s.threads ++ (y ∷ [])) i ended)
@@ -203,8 +205,7 @@ module _ (P : Program) (z : Section) (R : Result) (s : State) (ts : List Record)
           let u = moved_to t next in
           let x = at d e fs in
           let s' = with_thread s m.pick x s.made in
-          let st = k.stage in
-          let on : m.stage ≡ 0 → ⊥ = λ q. omega (arith, q, st) in
+          let on : is_born m.stage ≡ false = ap is_born k.stage in
           let ff = follows_fork z i c d e fs t f in
           let n = wants_as (counted_as m) m.pick (want_at z.bytes t next) in
           let w : n.wants ≡ set m.wants m.pick (want_of x) =
@@ -214,7 +215,7 @@ module _ (P : Program) (z : Section) (R : Result) (s : State) (ts : List Record)
           k.tracks.few_locks refl refl k.tracks.made w
           (held_same s m m.pick s.made x k.due.started
           (λ l. ap (λ (y : Thread). occurs l (holds y)) (sym k.is)) k.tracks.held)
-          k.tracks.owners k.tracks.counts in
+          k.tracks.locks_long in
           let nc = not_crowded m.lent s h in
           let l1 = length-set s.threads m.pick x in
           let l2 = length-set ts m.pick u in

@@ -1,6 +1,6 @@
 -- Records of threads that were not started are as they were.
 use Rattle.std.specs.Prelude.{◌≡◌, refl, Bool, true, false, cond, List, ℕ, ◌+◌, ◌-◌, ◌%◌, ◌<◌, ◌≤◌, eqb, leb, length, get_or}
-use Rattle.std.proofs.Common.{◌∙◌, ap, arith, get_or-set_other}
+use Rattle.std.proofs.Common.{sym, ◌∙◌, ap, arith, get_or-set_other}
 use Rattle.steps.specs.Steps.{other_as, mirror_as, operand_of}
 use Rattle.table.specs.Program.{Program}
 use Rattle.run.specs.Run.{State}
@@ -11,12 +11,15 @@ use Rattle.steps.specs.declared.thread.Thread.{Thread as Record}
 use Rattle.steps.specs.Shown.{blank}
 use Rattle.steps.specs.Records.{level, moved_to, finished_as, bound_to, entered_as, called_as, left_to, born_at}
 use Rattle.steps.specs.declared.machine.Machine.{Machine}
-use Rattle.steps.specs.declared.Ticked.{Ticked}
-use Rattle.steps.specs.Machines.{open_mark, unstarted_mark, turned, view, over_as, next_byte, settled_as, taken_by}
+use Rattle.steps.specs.Machines.{is_born, is_open, is_over, turned, view, over_as, next_byte, settled_as, taken_by}
 use Rattle.steps.specs.Machines.{given_back, made_one, counted_as, wants_as, want_at, held_elsewhere, starting_as, full_at}
 use Rattle.steps.specs.Machines.{crowded_at}
 use Rattle.steps.specs.Steps.{pair, beyond_as, idle_as, done_as, top_of, close_as, end_as, new_as, lock_as, fork_as, choice_as}
 use Rattle.steps.specs.Steps.{side_of, call_as, item_by, item_as, step_as}
+use Rattle.steps.specs.declared.machine.Ending.TheVariants.{Open, Unstarted}
+use Rattle.steps.specs.declared.machine.Stage.TheVariants.{Turn}
+use Rattle.steps.specs.Steps.{Ticked}
+use Rattle.steps.specs.declared.machine.Want.TheVariants.{Gone}
 use Rattle.links.specs.Lies.{Section}
 use Rattle.runner.specs.Ticks.{looked, tick_as, machine_after, Ticks, start, more}
 use Rattle.runner.proofs.Laws.Settles.{Stage, births, turns, over}
@@ -32,12 +35,12 @@ either Q false x y p q = q
 -- settling starts no thread
 settled_threads : (m : Machine) (bs : List ℕ) → (settled_as m bs).threads ≡ m.threads
 settled_threads m bs =
-    either Q (eqb (view m m.threads) open_mark) (next_byte m bs) (over_as m (view m m.threads))
-    (either Q (leb (length bs) m.read) (over_as m open_mark)
-    (cond (leb m.threads (get_or bs m.read 0 % most_threads)) (over_as m unstarted_mark)
-    (turned m 1 m.answer m.read (get_or bs m.read 0 % most_threads))) refl
-    (either Q (leb m.threads (get_or bs m.read 0 % most_threads)) (over_as m unstarted_mark)
-    (turned m 1 m.answer m.read (get_or bs m.read 0 % most_threads)) refl refl)) refl
+    either Q (is_open (view m m.threads)) (next_byte m bs) (over_as m (view m m.threads))
+    (either Q (leb (length bs) m.read) (over_as m Open)
+    (cond (leb m.threads (get_or bs m.read 0 % most_threads)) (over_as m Unstarted)
+    (turned m Turn m.read (get_or bs m.read 0 % most_threads))) refl
+    (either Q (leb m.threads (get_or bs m.read 0 % most_threads)) (over_as m Unstarted)
+    (turned m Turn m.read (get_or bs m.read 0 % most_threads)) refl refl)) refl
   where
     Q : Machine → Type 0
     Q k = k.threads ≡ m.threads
@@ -74,8 +77,8 @@ module _ (ks s heads links bs : List ℕ) (t : Record) (m : Machine) where
   end_more : More m (end_as s bs t m)
   end_more =
       either (More m) (eqb t.depth 0)
-      (pair (finished_as t) (settled_as (wants_as (counted_as m) m.pick (most_locks + 1)) bs)) (close_as s bs t m)
-      (let e = settled_threads (wants_as (counted_as m) m.pick (most_locks + 1)) bs in omega (arith, e)) close_more
+      (pair (finished_as t) (settled_as (wants_as (counted_as m) m.pick Gone) bs)) (close_as s bs t m)
+      (let e = settled_threads (wants_as (counted_as m) m.pick Gone) bs in omega (arith, e)) close_more
 
   lock_more : (l : ℕ) → More m (lock_as s bs l t m)
   lock_more l =
@@ -129,7 +132,7 @@ module _ (ks s heads links bs : List ℕ) (t : Record) (m : Machine) where
   step_more : More m (step_as ks s heads links bs t m)
   unfolding step_as
   step_more =
-      either (More m) (eqb m.stage 0) (pair (born_at t m.head m.born) (settled_as m bs))
+      either (More m) (is_born m.stage) (pair (born_at t m.head m.born) (settled_as m bs))
       (cond t.ended (idle_as bs t m) (item_as ks s heads links bs t m))
       (let e = settled_threads m bs in omega (arith, e))
       (either (More m) t.ended (idle_as bs t m) (item_as ks s heads links bs t m) (idle_more bs t m)
@@ -137,13 +140,13 @@ module _ (ks s heads links bs : List ℕ) (t : Record) (m : Machine) where
 
 -- the record that is looked at is that of a thread that was started
 picked : (P : Program) (z : Section) (R : Result) (s : State) (ts : List Record) (m : Machine) → On P z R s ts m
-    → (m.stage ≡ 2 → ⊥) → m.pick < m.threads
+    → is_over m.stage ≡ false → m.pick < m.threads
 picked P z R s ts m on going = by on.1
   where
     by : Stage P z R s m → m.pick < m.threads
     by (births e p n) = let h = on.0.threads in omega (arith, p, h)
     by (turns e n d) = let h = on.0.threads in let g = d.started in omega (arith, g, h)
-    by (over w e g r) = absurd (going e)
+    by (over w e r) = absurd (let z : ◌≡◌ {A = Bool} false true = sym going ∙ ap is_over e in cc)
 
 -- records from the number of threads on are as they were
 pub kept :

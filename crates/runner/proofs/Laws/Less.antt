@@ -1,7 +1,7 @@
 -- A tick leaves less to do: it reads a byte, or writes the record of the thread that the byte before it started.
 use Rattle.std.specs.Prelude.{◌≡◌, Bool, ℕ, ◌+◌, ◌*◌, ◌-◌, ◌%◌, ◌<◌, ◌≤◌, eqb, leb, length, get_or}
 use Rattle.std.proofs.Math.Path.{refl, subst}
-use Rattle.std.proofs.Common.{sym, ap, arith, eq-eqb, ne_eqb}
+use Rattle.std.proofs.Common.{false, sym, ap, arith}
 use Rattle.std.proofs.Math.Bool.{cond}
 use Rattle.steps.specs.Steps.{other_as, mirror_as, operand_of}
 use Rattle.table.specs.Constants.{END, NEW, LOCK, FORK, CHOICE, CALL, MIRROR, code, most_names}
@@ -9,12 +9,15 @@ use Rattle.schedule.specs.Limits.{most_threads, most_locks}
 use Rattle.steps.specs.declared.thread.Thread.{Thread as Record}
 use Rattle.steps.specs.Records.{level, moved_to, finished_as, bound_to, entered_as, called_as, left_to, born_at}
 use Rattle.steps.specs.declared.machine.Machine.{Machine}
-use Rattle.steps.specs.declared.Ticked.{Ticked}
-use Rattle.steps.specs.Machines.{open_mark, unstarted_mark}
+use Rattle.steps.specs.Machines.{is_born, is_open}
 use Rattle.steps.specs.Machines.{turned, view, over_as, next_byte, settled_as, taken_by, given_back, made_one, counted_as}
 use Rattle.steps.specs.Machines.{wants_as, want_at, held_elsewhere, starting_as, full_at, crowded_at}
 use Rattle.steps.specs.Steps.{pair, beyond_as, idle_as, done_as, top_of, close_as, end_as, new_as, lock_as, fork_as, choice_as}
 use Rattle.steps.specs.Steps.{side_of, call_as, item_by, item_as, step_as}
+use Rattle.steps.specs.declared.machine.Ending.TheVariants.{Open, Unstarted}
+use Rattle.steps.specs.declared.machine.Stage.TheVariants.{Born, Turn}
+use Rattle.steps.specs.Steps.{Ticked}
+use Rattle.steps.specs.declared.machine.Want.TheVariants.{Gone}
 use Rattle.links.specs.Lies.{Section}
 use Rattle.runner.specs.Ticks.{tick_as, left}
 use Rattle.runner.proofs.Laws.Kept.{either}
@@ -23,12 +26,12 @@ use Rattle.runner.proofs.Laws.Kept.{either}
 settled_left :
     (z : Section) (m : Machine) → left z (settled_as m z.schedule) ≤ 2 * (length z.schedule - m.read) + 1
 settled_left z m =
-    either Q (eqb (view m m.threads) open_mark) (next_byte m z.schedule) (over_as m (view m m.threads))
-    (either Q (leb (length z.schedule) m.read) (over_as m open_mark)
-    (cond (leb m.threads (get_or z.schedule m.read 0 % most_threads)) (over_as m unstarted_mark)
-    (turned m 1 m.answer m.read (get_or z.schedule m.read 0 % most_threads))) over
-    (either Q (leb m.threads (get_or z.schedule m.read 0 % most_threads)) (over_as m unstarted_mark)
-    (turned m 1 m.answer m.read (get_or z.schedule m.read 0 % most_threads)) over on)) over
+    either Q (is_open (view m m.threads)) (next_byte m z.schedule) (over_as m (view m m.threads))
+    (either Q (leb (length z.schedule) m.read) (over_as m Open)
+    (cond (leb m.threads (get_or z.schedule m.read 0 % most_threads)) (over_as m Unstarted)
+    (turned m Turn m.read (get_or z.schedule m.read 0 % most_threads))) over
+    (either Q (leb m.threads (get_or z.schedule m.read 0 % most_threads)) (over_as m Unstarted)
+    (turned m Turn m.read (get_or z.schedule m.read 0 % most_threads)) over on)) over
   where
     Q : Machine → Type 0
     Q k = left z k ≤ 2 * (length z.schedule - m.read) + 1
@@ -73,7 +76,7 @@ module _ (z : Section) (t : Record) (m : Machine) (inside : m.read < length z.sc
 
   end_less : Less z m (end_as z.bytes z.schedule t m)
   end_less =
-      let n = wants_as (counted_as m) m.pick (most_locks + 1) in
+      let n = wants_as (counted_as m) m.pick Gone in
       either (Less z m) (eqb t.depth 0) (pair (finished_as t) (settled_as n z.schedule))
       (close_as z.bytes z.schedule t m) (read_less n refl) close_less
 
@@ -130,32 +133,32 @@ module _ (z : Section) (t : Record) (m : Machine) (inside : m.read < length z.sc
       (done_less (bound_to t k (operand_of s t) (t.at + 2)) m refl) (done_less (left_to t k) m refl)))))))
 
   -- a byte is read
-  pub turn_less : m.stage ≡ 1 → left z (tick_as z t m).machine < left z m
+  pub turn_less : m.stage ≡ Turn → left z (tick_as z t m).machine < left z m
   unfolding step_as
   turn_less e =
       let i = item_as z.counts z.bytes z.heads z.links z.schedule t m in
       let b = pair (born_at t m.head m.born) (settled_as m z.schedule) in
-      let n : m.stage ≡ 0 → ⊥ = λ q. omega (arith, q, e) in
+      let n : is_born m.stage ≡ false = ap is_born e in
       let h : Less z m (cond t.ended (idle_as z.schedule t m) i) =
       either (Less z m) t.ended (idle_as z.schedule t m) i idle_less (item_less (get_or z.bytes t.at 0)) in
       let g : left z m ≡ 2 * (length z.schedule - m.read) + 1 = rw e refl in
-      let w : cond (eqb m.stage 0) b (cond t.ended (idle_as z.schedule t m) i)
-      ≡ cond t.ended (idle_as z.schedule t m) i = rw (ne_eqb m.stage 0 n) refl in
-      let k : left z (cond (eqb m.stage 0) b (cond t.ended (idle_as z.schedule t m) i)).machine
+      let w : cond (is_born m.stage) b (cond t.ended (idle_as z.schedule t m) i)
+      ≡ cond t.ended (idle_as z.schedule t m) i = rw (n) refl in
+      let k : left z (cond (is_born m.stage) b (cond t.ended (idle_as z.schedule t m) i)).machine
       ≤ 2 * (length z.schedule - m.read) = subst (Less z m) (sym w) h in
       omega (arith, k, g)
 
 -- a record is written
-pub birth_less : (z : Section) (t : Record) (m : Machine) → m.stage ≡ 0 → left z (tick_as z t m).machine < left z m
+pub birth_less : (z : Section) (t : Record) (m : Machine) → m.stage ≡ Born → left z (tick_as z t m).machine < left z m
 unfolding step_as
 birth_less z t m e =
     let i = item_as z.counts z.bytes z.heads z.links z.schedule t m in
     let b = pair (born_at t m.head m.born) (settled_as m z.schedule) in
     let h = settled_left z m in
     let g : left z m ≡ 2 * (length z.schedule - m.read) + 2 = rw e refl in
-    let w : cond (eqb m.stage 0) b (cond t.ended (idle_as z.schedule t m) i) ≡ b =
-    rw (eq-eqb m.stage 0 e) refl in
-    let k : left z (cond (eqb m.stage 0) b (cond t.ended (idle_as z.schedule t m) i)).machine
+    let w : cond (is_born m.stage) b (cond t.ended (idle_as z.schedule t m) i) ≡ b =
+    rw (ap is_born e) refl in
+    let k : left z (cond (is_born m.stage) b (cond t.ended (idle_as z.schedule t m) i)).machine
     ≤ 2 * (length z.schedule - m.read) + 1 =
     subst (λ (r : Ticked). left z r.machine ≤ 2 * (length z.schedule - m.read) + 1) (sym w) h in
     omega (arith, k, g)

@@ -1,5 +1,5 @@
 -- Where the machine tracks the state, its tests say what the run says: which locks others hold, and how threads stand.
-use Rattle.std.specs.Prelude.{◌≡◌, refl, ◌≢◌, ◌⊎◌, Bool, true, false, cond, not, List, [], ◌∷◌, ℕ, zero, suc, ◌+◌}
+use Rattle.std.specs.Prelude.{◌≡◌, refl, ◌≢◌, ◌⊎◌, Bool, true, false, cond, not, List, [], ◌∷◌, ℕ, suc, ◌+◌}
 use Rattle.std.specs.Prelude.{◌<◌, ◌≤◌, eqb, length, get_or}
 use Rattle.std.proofs.Common.{sym, ◌∙◌, ap, inl, inr, arith, eq-eqb, ne_eqb, eqb-true}
 use Rattle.std.proofs.Math.Decide.{ℕ_discrete}
@@ -10,8 +10,12 @@ use Rattle.run.specs.Run.{Env, Frame, Thread, ended, at, State, thread, holds, t
 use Rattle.schedule.specs.Limits.{most_locks}
 use Rattle.schedule.specs.Schedule.{Outlook, none_left, all_wait, some_can, and_waiting, outlook_from, outlook}
 use Rattle.steps.specs.declared.machine.Machine.{Machine}
-use Rattle.steps.specs.Machines.{open_mark, held_elsewhere, worse, join_at, view}
-use Rattle.runner.specs.Tracks.{occurs, Held, want_of, Wants, outlook_number}
+use Rattle.steps.specs.Machines.{lock_at, held_elsewhere, worse, join_at, view}
+use Rattle.steps.specs.declared.machine.Ending.{Ending}
+use Rattle.steps.specs.declared.machine.Ending.TheVariants.{Ended, Stuck, Open, Unstarted, Beyond}
+use Rattle.steps.specs.declared.machine.Want.TheVariants.{Free, Gone}
+use Rattle.steps.specs.declared.machine.Want.TheVariants as want
+use Rattle.runner.specs.Tracks.{occurs, Held, want_of, Wants, outlook_ending}
 
 -- an entry occurs
 pub occurs_in : (l : ℕ) (xs : List ℕ) → 1 ≤ occurs l xs → In l xs
@@ -39,55 +43,55 @@ pub held_is :
 held_is s m t l held h = by (taken? s t l) (held_elsewhere m t l) refl
   where
     count : ℕ
-    count = get_or m.count l 0
+    count = (lock_at m l).count
 
     owner : ℕ
-    owner = get_or m.owner l 0
+    owner = (lock_at m l).owner
 
-    none : (u : ℕ) → (eqb (get_or m.owner l 0) u ≡ false ⊎ get_or m.count l 0 ≡ 0) → In l (holds (thread s u)) → ⊥
+    none : (u : ℕ) → (eqb (lock_at m l).owner u ≡ false ⊎ (lock_at m l).count ≡ 0) → In l (holds (thread s u)) → ⊥
     none u (inl e) i =
         let k = in_occurs l (holds (thread s u)) i in
         let q : occurs l (holds (thread s u)) ≡ 0 = held u l h ∙ rw e refl in
         omega (arith, k, q)
     none u (inr e) i =
         let k = in_occurs l (holds (thread s u)) i in
-        let q : occurs l (holds (thread s u)) ≡ 0 = held u l h ∙ zeros (eqb (get_or m.owner l 0) u) in
+        let q : occurs l (holds (thread s u)) ≡ 0 = held u l h ∙ zeros (eqb (lock_at m l).owner u) in
         omega (arith, k, q)
       where
-        zeros : (b : Bool) → cond b (get_or m.count l 0) 0 ≡ 0
+        zeros : (b : Bool) → cond b (lock_at m l).count 0 ≡ 0
         zeros true = e
         zeros false = refl
 
     -- the machine says that another thread holds it
-    some : cond (eqb (get_or m.count l 0) 0) false (not (eqb (get_or m.owner l 0) t)) ≡ true
+    some : cond (eqb (lock_at m l).count 0) false (not (eqb (lock_at m l).owner t)) ≡ true
         → (u : ℕ) × ((u ≢ t) × In l (holds (thread s u)))
-    some e = split (ℕ_discrete (get_or m.count l 0) 0)
+    some e = split (ℕ_discrete (lock_at m l).count 0)
       where
-        split : Dec (get_or m.count l 0 ≡ 0) → (u : ℕ) × ((u ≢ t) × In l (holds (thread s u)))
+        split : Dec ((lock_at m l).count ≡ 0) → (u : ℕ) × ((u ≢ t) × In l (holds (thread s u)))
         split (yes z) =
-            let k : false ≡ true = rw (eq-eqb (get_or m.count l 0) 0 z) at e in
+            let k : false ≡ true = rw (eq-eqb (lock_at m l).count 0 z) at e in
             absurd (let y : ◌≡◌ {A = ℕ} 0 1 = cc in omega arith)
         split (no z) =
-            let k : not (eqb (get_or m.owner l 0) t) ≡ true = rw (ne_eqb (get_or m.count l 0) 0 z) at e in
-            let o = get_or m.owner l 0 in
-            let q : occurs l (holds (thread s o)) ≡ get_or m.count l 0 = held o l h ∙ rw (eq-eqb o o refl) refl in
+            let k : not (eqb (lock_at m l).owner t) ≡ true = rw (ne_eqb (lock_at m l).count 0 z) at e in
+            let o = (lock_at m l).owner in
+            let q : occurs l (holds (thread s o)) ≡ (lock_at m l).count = held o l h ∙ rw (eq-eqb o o refl) refl in
             (o, (eqb-false o t (not-true (eqb o t) k), occurs_in l (holds (thread s o)) (omega (arith, q, z))))
 
     -- it says that no other thread does
-    no_other : cond (eqb (get_or m.count l 0) 0) false (not (eqb (get_or m.owner l 0) t)) ≡ false
+    no_other : cond (eqb (lock_at m l).count 0) false (not (eqb (lock_at m l).owner t)) ≡ false
         → (u : ℕ) → u ≢ t → In l (holds (thread s u)) → ⊥
-    no_other e u n i = split (ℕ_discrete (get_or m.count l 0) 0)
+    no_other e u n i = split (ℕ_discrete (lock_at m l).count 0)
       where
-        split : Dec (get_or m.count l 0 ≡ 0) → ⊥
+        split : Dec ((lock_at m l).count ≡ 0) → ⊥
         split (yes z) = none u (inr z) i
         split (no z) =
-            let k : not (eqb (get_or m.owner l 0) t) ≡ false = rw (ne_eqb (get_or m.count l 0) 0 z) at e in
-            let o : get_or m.owner l 0 ≡ t =
-            eqb-true (get_or m.owner l 0) t (not-false (eqb (get_or m.owner l 0) t) k) in
-            none u (inl (ne_eqb (get_or m.owner l 0) u (λ q. n (sym q ∙ o)))) i
+            let k : not (eqb (lock_at m l).owner t) ≡ false = rw (ne_eqb (lock_at m l).count 0 z) at e in
+            let o : (lock_at m l).owner ≡ t =
+            eqb-true (lock_at m l).owner t (not-false (eqb (lock_at m l).owner t) k) in
+            none u (inl (ne_eqb (lock_at m l).owner u (λ q. n (sym q ∙ o)))) i
 
     by : (d : Dec ((u : ℕ) × ((u ≢ t) × In l (holds (thread s u))))) (b : Bool)
-        → cond (eqb (get_or m.count l 0) 0) false (not (eqb (get_or m.owner l 0) t)) ≡ b
+        → cond (eqb (lock_at m l).count 0) false (not (eqb (lock_at m l).owner t)) ≡ b
         → ◌≡◌ {A = Bool} (elim d [ yes h ↦ true | no n ↦ false ]) b
     by (yes p) true e = refl
     by (yes p) false e = absurd (no_other e p.0 p.1.0 p.1.1)
@@ -95,40 +99,40 @@ held_is s m t l held h = by (taken? s t l) (held_elsewhere m t l) refl
     by (no n) false e = refl
 
 -- threads that stand as v says beside others
-abbrev beside : ℕ → Outlook → ℕ
+abbrev beside : Ending → Outlook → Ending
 beside v none_left = v
 beside v all_wait = worse v
-beside v some_can = open_mark
+beside v some_can = Open
 
-worse_twice : (v : ℕ) → worse (worse v) ≡ worse v
-worse_twice zero = refl
-worse_twice (suc v) = rw (ne_eqb (suc v) 0 (λ e. omega (arith, e))) (rw (ne_eqb (suc v) 0 (λ e. omega (arith, e))) refl)
+worse_twice : (v : Ending) → worse (worse v) ≡ worse v
+worse_twice Ended = refl
+worse_twice Stuck = refl
+worse_twice Open = refl
+worse_twice Unstarted = refl
+worse_twice Beyond = refl
 
-beside_waiting : (v : ℕ) (o : Outlook) → beside (worse v) o ≡ beside v (and_waiting o)
+beside_waiting : (v : Ending) (o : Outlook) → beside (worse v) o ≡ beside v (and_waiting o)
 beside_waiting v none_left = refl
 beside_waiting v all_wait = worse_twice v
 beside_waiting v some_can = refl
 
-beside_can : (o : Outlook) → beside open_mark o ≡ open_mark
+beside_can : (o : Outlook) → beside Open o ≡ Open
 beside_can none_left = refl
 beside_can all_wait = refl
 beside_can some_can = refl
 
 -- a thread that has ended changes nothing
-join_ended : (m : Machine) (t v : ℕ) → get_or m.wants t 0 ≡ most_locks + 1 → join_at m t v ≡ v
+join_ended : (m : Machine) (t : ℕ) (v : Ending) → get_or m.wants t Free ≡ Gone → join_at m t v ≡ v
 join_ended m t v e = rw e refl
 
-join_free : (m : Machine) (t v : ℕ) → get_or m.wants t 0 ≡ most_locks → join_at m t v ≡ open_mark
+join_free : (m : Machine) (t : ℕ) (v : Ending) → get_or m.wants t Free ≡ Free → join_at m t v ≡ Open
 join_free m t v e = rw e refl
 
 -- a thread that wants a lock waits for it or not
 join_lock :
-    (m : Machine) (t v l : ℕ) (b : Bool) → get_or m.wants t 0 ≡ l → l < most_locks → b ≡ held_elsewhere m t l
-    → join_at m t v ≡ cond b (worse v) open_mark
-join_lock m t v l b e h q =
-    rw e
-    (rw (ne_eqb l most_locks (λ k. omega (arith, k, h)), ne_eqb l (most_locks + 1) (λ k. omega (arith, k, h)))
-    (ap (λ (c : Bool). cond c (worse v) open_mark) (sym q)))
+    (m : Machine) (t : ℕ) (v : Ending) (l : ℕ) (b : Bool) → get_or m.wants t Free ≡ want.Lock l → b ≡ held_elsewhere m t l
+    → join_at m t v ≡ cond b (worse v) Open
+join_lock m t v l b e q = rw e (ap (λ (c : Bool). cond c (worse v) Open) (sym q))
 
 -- one thread more
 step_view : (m : Machine) (t : ℕ) → view m (suc t) ≡ join_at m t (view m t)
@@ -136,7 +140,7 @@ unfolding view
 step_view m t = refl
 
 -- no thread at all
-no_view : (m : Machine) → view m 0 ≡ 0
+no_view : (m : Machine) → view m 0 ≡ Ended
 unfolding view
 no_view m = refl
 
@@ -152,13 +156,13 @@ module _ (s : State) (m : Machine) (held : Held s m) (wants : Wants s m) where
       let k : suc t + length xs ≡ length s.threads = omega (arith, long) in
       rw h
       (view_from xs (suc t) k (λ i. let g : suc t + i ≡ t + suc i = omega arith in rw g (are (suc i)))
-      ∙ ap (λ (v : ℕ). beside v (outlook_from s (suc t) xs)) (step_view m t)
+      ∙ ap (λ (v : Ending). beside v (outlook_from s (suc t) xs)) (step_view m t)
       ∙ by x here)
     where
       here : x ≡ thread s t
       here = let g : t + 0 ≡ t = omega arith in rw g at (are 0)
 
-      want : get_or m.wants t 0 ≡ want_of (thread s t)
+      want : get_or m.wants t Free ≡ want_of (thread s t)
       want = wants.wanted t (omega (arith, long))
 
       locked :
@@ -168,26 +172,26 @@ module _ (s : State) (m : Machine) (held : Held s m) (wants : Wants s m) where
           ≡ beside (view m t) (cond b (and_waiting (outlook_from s (suc t) xs)) some_can)
       locked y c d e fs is true w =
           let small : e y < most_locks = rw (sym is) at (wants.small t) in
-          let q = join_lock m t (view m t) (e y) true (want ∙ rw (sym is) refl) small
+          let q = join_lock m t (view m t) (e y) true (want ∙ rw (sym is) refl)
           (sym w ∙ held_is s m t (e y) held small) in
-          ap (λ (v : ℕ). beside v (outlook_from s (suc t) xs)) q ∙ beside_waiting (view m t) (outlook_from s (suc t) xs)
+          ap (λ (v : Ending). beside v (outlook_from s (suc t) xs)) q ∙ beside_waiting (view m t) (outlook_from s (suc t) xs)
       locked y c d e fs is false w =
           let small : e y < most_locks = rw (sym is) at (wants.small t) in
-          let q = join_lock m t (view m t) (e y) false (want ∙ rw (sym is) refl) small
+          let q = join_lock m t (view m t) (e y) false (want ∙ rw (sym is) refl)
           (sym w ∙ held_is s m t (e y) held small) in
-          ap (λ (v : ℕ). beside v (outlook_from s (suc t) xs)) q ∙ beside_can (outlook_from s (suc t) xs)
+          ap (λ (v : Ending). beside v (outlook_from s (suc t) xs)) q ∙ beside_can (outlook_from s (suc t) xs)
 
-      free : (c : Code) (e : Env) (fs : List Frame) → at c e fs ≡ thread s t → want_of (at c e fs) ≡ most_locks
-          → beside (join_at m t (view m t)) (outlook_from s (suc t) xs) ≡ open_mark
+      free : (c : Code) (e : Env) (fs : List Frame) → at c e fs ≡ thread s t → want_of (at c e fs) ≡ Free
+          → beside (join_at m t (view m t)) (outlook_from s (suc t) xs) ≡ Open
       free c e fs is w =
-          ap (λ (v : ℕ). beside v (outlook_from s (suc t) xs))
+          ap (λ (v : Ending). beside v (outlook_from s (suc t) xs))
           (join_free m t (view m t) (want ∙ ap want_of (sym is) ∙ w))
           ∙ beside_can (outlook_from s (suc t) xs)
 
       by : (y : Thread) → y ≡ thread s t
           → beside (join_at m t (view m t)) (outlook_from s (suc t) xs) ≡ beside (view m t) (outlook_from s t (y ∷ xs))
       by ended is =
-          ap (λ (v : ℕ). beside v (outlook_from s (suc t) xs))
+          ap (λ (v : Ending). beside v (outlook_from s (suc t) xs))
           (join_ended m t (view m t) (want ∙ ap want_of (sym is)))
       by (at (lock y c d) e fs) is =
           locked y c d e fs is (elim (taken? s t (e y)) [ yes h ↦ true | no n ↦ false ]) refl
@@ -199,7 +203,7 @@ module _ (s : State) (m : Machine) (held : Held s m) (wants : Wants s m) where
       by (at (mirror x y c) e fs) is = free (mirror x y c) e fs is refl
 
   -- how the threads stand is as the machine says
-  pub view_is : m.threads ≡ length s.threads → view m m.threads ≡ outlook_number (outlook s)
+  pub view_is : m.threads ≡ length s.threads → view m m.threads ≡ outlook_ending (outlook s)
   view_is e =
       let h : length s.threads ≡ 0 + length s.threads = omega arith in
       ap (view m) (e ∙ h) ∙ whole ∙ number (outlook s)
@@ -208,7 +212,7 @@ module _ (s : State) (m : Machine) (held : Held s m) (wants : Wants s m) where
       whole =
           view_from s.threads 0 (omega arith) (λ i. let h : 0 + i ≡ i = omega arith in rw h refl)
 
-      number : (o : Outlook) → beside (view m 0) o ≡ outlook_number o
+      number : (o : Outlook) → beside (view m 0) o ≡ outlook_ending o
       number none_left = no_view m
       number all_wait = rw (no_view m) refl
       number some_can = refl

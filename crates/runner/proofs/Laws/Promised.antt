@@ -1,6 +1,6 @@
 -- What the promises of the runner come to; each law uses them, so that none can be dropped.
 use Rattle.std.specs.Prelude.{◌≡◌, refl, ◌≢◌, cond, List, [], ◌∷◌, map, ℕ, zero, suc, ◌+◌, ◌*◌, ◌-◌, ◌<◌, ◌≤◌, ltb}
-use Rattle.std.specs.Prelude.{length, get_or, take, drop, replicate}
+use Rattle.std.specs.Prelude.{length, get_or, take, drop, replicate, Ok}
 use Rattle.std.proofs.Common.{sym, ◌∙◌, ap, subst, inl, inr, arith, lt-ltb}
 use Rattle.table.specs.Constants.{Op, END, NEW, LOCK, FORK, CHOICE, OTHER, CALL, MIRROR, code, most_names}
 use Rattle.table.specs.Program.{Code, end, new, lock, fork, choice, call, mirror, Program}
@@ -20,10 +20,9 @@ use Rattle.links.specs.Laws.Bytes.{drop_here}
 use Rattle.runner.specs.declared.Desk.{Desk}
 use Rattle.runner.specs.declared.Extent.{Extent}
 use Rattle.runner.specs.declared.Report.{Report}
-use Rattle.runner.specs.declared.Ran.{Ran}
-use Rattle.runner.specs.declared.Ran.TheVariants.{Stuck}
+use Rattle.steps.specs.declared.machine.Ending.TheVariants.{Stuck}
 use Rattle.runner.specs.Desk.{fresh, lent_of, RunsFresh}
-use Rattle.runner.specs.Answer.{report_of, Runs, Reports}
+use Rattle.runner.specs.Answer.{Ran, report_of, Runs, Reports}
 
 -- a table, a schedule and records have one answer
 pub one_answer : (o : Outcome) (bs : List ℕ) (before after after' : List Record) (r r' : Ran)
@@ -40,12 +39,12 @@ one_report o bs before after after' r r' p q =
 -- a refusal by the check leaves every record
 pub refused_keeps : (e : ℕ) (bs : List ℕ) (before after : List Record) (r : Ran) → Runs (refused e) bs before after r
     → after ≡ before
-refused_keeps e bs before after r p = p.1
+refused_keeps e bs before after r p = p.2
 
 module _ (P : Program) (bs : List ℕ) (before after : List Record) (r : Ran)
     (p : Runs (accepted P) bs before after r) where
   -- a clear program is never answered stuck
-  pub clear_goes_on : Clear P → (x : Extent) → r ≢ Stuck x
+  pub clear_goes_on : Clear P → (x : Extent) → r ≢ Ok (record { ending = Stuck; extent = x })
   clear_goes_on = p.not_stuck
 
   -- the record of a thread that was not started is as it was

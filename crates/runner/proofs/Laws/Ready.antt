@@ -4,7 +4,7 @@ use Rattle.std.specs.Prelude.{◌≤◌, ◌^◌, eqb, leb, ltb, length, get_or}
 use Rattle.std.proofs.Common.{sym, ◌∙◌, ap, subst, arith, eq-eqb, ne_eqb, leb-false}
 use Rattle.std.proofs.Math.Decide.{dec_lt, ℕ_discrete}
 use Rattle.std.proofs.Math.ListN.{get_or-eq_default}
-use Rattle.runner.specs.Ticks.{CanStep}
+use Rattle.steps.specs.Steps.{Ready}
 use Rattle.rules.specs.Model.{bind}
 use Rattle.table.specs.Constants.{END, NEW, LOCK, FORK, CHOICE, OTHER, CALL, MIRROR, code, most_names, most_bytes}
 use Rattle.table.specs.Program.{Program, Code, end, new, lock, fork, choice, call, mirror, body}
@@ -26,21 +26,22 @@ use Rattle.runner.specs.Tracks.{occurs, want_of, SmallWant, written, Tracks}
 use Rattle.runner.proofs.Laws.Items.{same_lock, follows_new, follows_mirror, follows_lock, follows_first}
 use Rattle.runner.proofs.Laws.Items.{follows_second, follows_close}
 use Rattle.runner.proofs.Laws.Calls.{follows_call}
-use Rattle.runner.proofs.Laws.States.{want_is, want_small, held_given}
+use Rattle.runner.proofs.Laws.States.{not_both, want_is, want_small, held_given}
+use Rattle.steps.specs.Machines.{is_born, lock_at, LowWant}
 use Rattle.runner.proofs.Laws.Turns.{Taking, followed, size_of}
 use Rattle.links.specs.Lies.{Bodies}
 use Rattle.runner.specs.Bounds.{Bounds}
 
--- what a thread wants is a lock or a mark
-want_low : (x : Thread) → SmallWant x → want_of x ≤ most_locks + 1
-want_low ended s = omega arith
-want_low (at end e fs) s = omega arith
-want_low (at (new x c) e fs) s = omega arith
-want_low (at (lock x c d) e fs) s = let h : e x < most_locks = s in omega (arith, h)
-want_low (at (fork i c d) e fs) s = omega arith
-want_low (at (choice a b c) e fs) s = omega arith
-want_low (at (call r xs c) e fs) s = omega arith
-want_low (at (mirror x y c) e fs) s = omega arith
+-- a lock that a thread wants is one that there can be
+want_low : (x : Thread) → SmallWant x → LowWant (want_of x)
+want_low ended s = tt
+want_low (at end e fs) s = tt
+want_low (at (new x c) e fs) s = tt
+want_low (at (lock x c d) e fs) s = s
+want_low (at (fork i c d) e fs) s = tt
+want_low (at (choice a b c) e fs) s = tt
+want_low (at (call r xs c) e fs) s = tt
+want_low (at (mirror x y c) e fs) s = tt
 
 -- the machine can look at every thread
 pub wanting : (z : Section) (s : State) (ts : List Record) (m : Machine) → Tracks z s ts m → Wanting m
@@ -49,7 +50,7 @@ wanting z s ts m tr =
     let f = tr.few in (
       omega (arith, e, f),
       λ t h. let w = tr.wants.wanted t (omega (arith, h, e)) in
-          let l = want_low (thread s t) (tr.wants.small t) in omega (arith, w, l),
+          subst LowWant (sym w) (want_low (thread s t) (tr.wants.small t)),
     )
 
 -- an item can be looked at where a code stands
@@ -85,7 +86,7 @@ goes_on z c e fs u n f k =
       counts = k;
       deep = omega (arith, d, few);
       item = item_here z f.stand.0 u.at c f.stand.1 f.stand.2;
-      wants = omega (arith, w, l);
+      wants = subst LowWant (sym w) l;
     }
 
 -- a lock occurs no more often than there are frames
@@ -137,21 +138,21 @@ module _ (P : Program) (z : Section) (R : Result) (s : State) (ts : List Record)
       }
 
   -- a lock is held 64 times at most
-  held_few : (x : Thread) → Taking P z R s ts m x → (l : ℕ) → l < most_locks → get_or m.count l 0 ≤ most_frames
+  held_few : (x : Thread) → Taking P z R s ts m x → (l : ℕ) → l < most_locks → (lock_at m l).count ≤ most_frames
   held_few x k l h =
-      let o = get_or m.owner l 0 in
-      let e : occurs l (holds (thread s o)) ≡ get_or m.count l 0 =
+      let o = (lock_at m l).owner in
+      let e : occurs l (holds (thread s o)) ≡ (lock_at m l).count =
       k.tracks.held o l h ∙ rw (eq-eqb o o refl) refl in
       let g = by o (dec_lt o (length s.threads)) in
       omega (arith, e, g)
     where
-      on : m.stage ≡ 0 → ⊥
-      on q = let e = k.stage in omega (arith, q, e)
+      on : is_born m.stage ≡ false
+      on = ap is_born k.stage
 
       by : (o : ℕ) → Dec (o < length s.threads) → occurs l (holds (thread s o)) ≤ most_frames
       by o (yes i) =
           follows_few z l (thread s o) (get_or (written ts m) o blank)
-          (k.tracks.follows o i (k.tracks.sized o i (λ q. absurd (on q))))
+          (k.tracks.follows o i (k.tracks.sized o i (λ q. absurd (not_both m.stage on q))))
       by o (no n) =
           let e : thread s o ≡ ended = get_or-eq_default s.threads ended (omega (arith, n)) in
           rw e (omega arith)
@@ -531,7 +532,7 @@ module _ (P : Program) (z : Section) (R : Result) (s : State) (ts : List Record)
       closes (held l) k f i w =
           let h = f.deep in
           let small : l < most_locks = f.all_small.0 in
-          let given = held_given s m m.pick s.made l (at d g fs) k.due.started small k.tracks.counts
+          let given = held_given s m m.pick s.made l (at d g fs) k.due.started small k.tracks.locks_long
           (λ j. rw k.is refl) k.tracks.held in
           record {
             some = omega (arith, h);
@@ -540,7 +541,7 @@ module _ (P : Program) (z : Section) (R : Result) (s : State) (ts : List Record)
             returns = λ q. absurd (omega (arith, q, w, small));
             after = λ q. absurd (omega (arith, q, w, small));
             held = λ q. (
-              subst (λ (v : ℕ). 1 ≤ get_or m.count v 0) (sym w) given.1,
+              subst (λ (v : ℕ). 1 ≤ (lock_at m v).count) (sym w) given.1,
               subst (λ (v : ℕ). Goes z.bytes (left_to (looked ts m) ((looked ts m).at + 1)) (given_back m v)) (sym w)
                   (goes_on z d g fs (left_to (looked ts m) ((looked ts m).at + 1)) (given_back m l) (left_to_lem
                   (held l) f false i)
@@ -614,12 +615,13 @@ module _ (P : Program) (z : Section) (R : Result) (s : State) (ts : List Record)
   items (at (mirror x y c) e fs) bodies k runs = items_mirror x y c e fs k
 
   -- a byte can be taken
-  pub ready_turn : (x : Thread) → Bodies P z → Taking P z R s ts m x → CanStep z (looked ts m) m
-  ready_turn x bodies k = record {
-    some = bounds.some;
-    ready = record {
+  pub ready_turn : (x : Thread) → Bodies P z → Taking P z R s ts m x
+      → (1 ≤ length z.bytes) × Ready z.counts z.bytes z.heads z.links z.schedule (looked ts m) m
+  ready_turn x bodies k = (
+    bounds.some,
+    record {
       births = λ q. wanting z s ts m k.tracks;
       counts = λ q. counted x k;
       items = λ q runs. items x bodies k runs;
-    };
-  }
+    },
+  )

@@ -12,7 +12,7 @@ use Rattle.runner.specs.Answer.{extent_of, ran_as, ran_number, report_of, Report
 pub table_first : (e : ℕ) (bs : List ℕ) (before after : List Record) (r : Report)
     → Reports (refused e) bs before after r → r.answer ≡ e
 table_first e bs before after r p =
-    ap (λ (v : Report). v.answer) (p.is ∙ ap report_of p.runs.0)
+    ap (λ (v : Report). v.answer) (p.is) ∙ p.runs.1
 
 module _ (P : Program) (bs : List ℕ) (before after : List Record) (r : Report)
     (p : Reports (accepted P) bs before after r) where

@@ -1,16 +1,20 @@
 -- Ticks keep the records and the machine on the run, and where nothing more is to be done they have its result.
-use Rattle.std.specs.Prelude.{◌≡◌, refl, List, [], ◌∷◌}
+use Rattle.std.specs.Prelude.{◌≡◌, refl, Bool, true, false, List, [], ◌∷◌}
 use Rattle.std.proofs.Common.{sym, ◌∙◌, ap, subst, arith}
 use Rattle.table.specs.Program.{Program, end, new, lock, fork, choice, call, mirror}
 use Rattle.run.specs.Run.{frame, Thread, ended, at, State, thread}
 use Rattle.schedule.specs.Schedule.{End, Result, stop}
 use Rattle.steps.specs.declared.thread.Thread.{Thread as Record}
 use Rattle.steps.specs.declared.machine.Machine.{Machine}
+use Rattle.steps.specs.declared.machine.Ending.{Ending}
+use Rattle.steps.specs.declared.machine.Stage.TheVariants.{Born, Turn, Over}
+use Rattle.steps.specs.Machines.{is_over}
+use Rattle.runner.specs.Answer.{ending_of}
 use Rattle.links.specs.Lies.{Section}
 use Rattle.runner.specs.Ticks.{Sized, looked, tick_as, records_after, machine_after, Ticks, start, more}
 use Rattle.links.specs.Lies.{Bodies}
 use Rattle.runner.specs.Tracks.{Tracks}
-use Rattle.runner.proofs.Laws.Settles.{Stage, births, turns, over, mark_of}
+use Rattle.runner.proofs.Laws.Settles.{Stage, births, turns, over}
 use Rattle.runner.proofs.Laws.Ticking.{On, tick_births}
 use Rattle.runner.proofs.Laws.Turns.{Taking, tick_ended, tick_new, tick_lock, tick_choice, tick_call, tick_mirror}
 use Rattle.runner.proofs.Laws.Turns.{tick_end, tick_close}
@@ -37,7 +41,7 @@ module _ (P : Program) (z : Section) (R : Result) (bodies : Bodies P z) where
 
   -- one tick
   pub on_tick :
-      (ts : List Record) (m : Machine) → OnRun ts m → (m.stage ≡ 2 → ⊥) → Sized (tick_as z (looked ts m) m).thread
+      (ts : List Record) (m : Machine) → OnRun ts m → is_over m.stage ≡ false → Sized (tick_as z (looked ts m) m).thread
       → OnRun (records_after z ts m) (machine_after z ts m)
   on_tick ts m (s, on) going sized = by on.1
     where
@@ -47,7 +51,7 @@ module _ (P : Program) (z : Section) (R : Result) (bodies : Bodies P z) where
           (s, tick_births P z R s ts m on.0 e (omega (arith, p, r)) n sized)
       by (turns e n d) =
           taking s ts m (thread s m.pick) (record { tracks = on.0; stage = e; next = n; due = d; is = refl })
-      by (over w e g r) = absurd (going e)
+      by (over w e r) = absurd (let z : ◌≡◌ {A = Bool} false true = sym going ∙ ap is_over e in cc)
 
   -- any number of ticks
   pub on_ticks : (ts us : List Record) (m n : Machine) → Ticks z ts m us n → OnRun ts m → OnRun us n
@@ -61,14 +65,15 @@ module _ (P : Program) (z : Section) (R : Result) (bodies : Bodies P z) where
           (subst (λ (q : List Record). OnRun q (machine_after z vs k)) (sym v) r)
 
   -- where nothing more is to be done, the machine and the records have the result of the run
-  pub on_over : (ts : List Record) (m : Machine) → OnRun ts m → m.stage ≡ 2
-      → (w : End) × (m.answer ≡ mark_of w) × (R ≡ stop w m.read R.state) × Tracks z R.state ts m
-  on_over ts m (s, on) e = by on.1
+  pub on_over : (ts : List Record) (m : Machine) (x : Ending) → OnRun ts m → m.stage ≡ Over x
+      → (w : End) × (x ≡ ending_of w) × (R ≡ stop w m.read R.state) × Tracks z R.state ts m
+  on_over ts m x (s, on) e = by on.1
     where
       by : Stage P z R s m
-          → (w : End) × (m.answer ≡ mark_of w) × (R ≡ stop w m.read R.state) × Tracks z R.state ts m
-      by (births g p n) = absurd (omega (arith, e, g))
-      by (turns g n d) = absurd (omega (arith, e, g))
-      by (over w g a r) =
+          → (w : End) × (x ≡ ending_of w) × (R ≡ stop w m.read R.state) × Tracks z R.state ts m
+      by (births g p n) = absurd (let z : Born ≡ Over x = sym g ∙ e in cc)
+      by (turns g n d) = absurd (let z : Turn ≡ Over x = sym g ∙ e in cc)
+      by (over w g r) =
           let q : R.state ≡ s = ap (λ (v : Result). v.state) r in
-          (w, a, r ∙ ap (stop w m.read) (sym q), subst (λ (v : State). Tracks z v ts m) (sym q) on.0)
+          let h : Over x ≡ Over (ending_of w) = sym e ∙ g in
+          (w, cc, r ∙ ap (stop w m.read) (sym q), subst (λ (v : State). Tracks z v ts m) (sym q) on.0)

@@ -1,42 +1,45 @@
 -- A run of a table: the first machine is on the run, the ticks are steady, and where they end the answer is the run's.
-use Rattle.std.specs.Prelude.{◌≡◌, refl, ◌≢◌, false, List, ℕ, ◌<◌, ◌^◌, length, get_or, replicate}
+use Rattle.std.specs.Prelude.{◌≡◌, refl, ◌≢◌, false, List, ℕ, ◌<◌, ◌^◌, length, get_or, replicate, Ok, Err}
 use Rattle.std.proofs.Common.{sym, ◌∙◌, ap, subst, arith, length-set, eq-eqb, ne_eqb}
 use Rattle.std.proofs.Math.Decide.{ℕ_discrete}
 use Rattle.table.specs.Constants.{most_names}
 use Rattle.table.specs.Program.{Program, body}
-use Rattle.table.specs.Check.{Outcome, refused, accepted, check_table}
+use Rattle.table.specs.Check.{Outcome, refused, check_table}
+use Rattle.table.specs.Refusal.{refusal_of}
+use Rattle.table.specs.Laws.Splits.{SectionsOf}
+use Rattle.table.proofs.Laws.Numbers.{number_of_refusal}
 use Rattle.table.proofs.Laws.Formed.{well_formed}
 use Rattle.table.proofs.Laws.Refusals.{refusals}
 use Rattle.table.specs.Laws.Sections.{Holds}
 use Rattle.table.proofs.Laws.Sections.{routines}
 use Rattle.run.specs.Run.{ended, thread, start}
-use Rattle.schedule.specs.Limits.{most_locks}
 use Rattle.schedule.specs.Schedule.{End, all_ended, stuck, at_end, unstarted, beyond, Result, stop, runs}
 use Rattle.schedule.proofs.Laws.Stuck.{never_stuck}
 use Rattle.steps.specs.declared.thread.Thread.{Thread as Record}
 use Rattle.steps.specs.declared.machine.Machine.{Machine}
 use Rattle.steps.specs.Shown.{blank, Shows, ShowsAll}
-use Rattle.steps.specs.Machines.{starting_as}
+use Rattle.steps.specs.declared.machine.Ending.{Ending}
+use Rattle.steps.specs.declared.machine.Ending.TheVariants.{Stuck}
+use Rattle.steps.specs.Machines.{is_born, starting_as}
+use Rattle.steps.specs.declared.machine.Want.TheVariants.{Free}
 use Rattle.links.specs.Lies.{Section, section, Lies, Bodies}
 use Rattle.links.specs.Holding.{Links}
 use Rattle.runner.specs.declared.Extent.{Extent}
-use Rattle.runner.specs.declared.Ran.{Ran}
-use Rattle.runner.specs.declared.Ran.TheVariants.{Stuck}
-use Rattle.runner.specs.Answer.{extent_of, ran_as, RunsAs, Runs}
+use Rattle.runner.specs.declared.Stop.{Stop}
+use Rattle.runner.specs.Answer.{Ran, extent_of, ending_of, ran_as, RunsAs, Runs}
 use Rattle.runner.specs.Bounds.{Bounds}
-use Rattle.runner.specs.Parts.{unbegun_as, first_machine, PreparedBy, Prepared, reached, answer_of}
+use Rattle.runner.specs.Parts.{unbegun_as, first_machine, Stops}
 use Rattle.runner.specs.Follows.{Follows}
-use Rattle.runner.specs.Ticks.{counts_in, bytes_in, section_of, looked, tick_as, Ticks, more, Steady}
+use Rattle.runner.specs.Ticks.{looked, tick_as, Ticks, more, Steady}
 use Rattle.runner.specs.Ticks as ticks
 use Rattle.runner.specs.Tracks.{Tracks}
-use Rattle.runner.proofs.Laws.Answers.{answer_is, answer_low}
 use Rattle.runner.proofs.Laws.Kept.{kept}
 use Rattle.runner.proofs.Laws.Ready.{item_here}
 use Rattle.runner.proofs.Laws.Runs.{OnRun, on_ticks, on_over}
-use Rattle.runner.proofs.Laws.Settles.{mark_of, over}
+use Rattle.runner.proofs.Laws.Settles.{over}
 use Rattle.runner.proofs.Laws.Shows.{shows, begins_free, begins_small}
 use Rattle.runner.proofs.Laws.Starts.{nothing, nothing_tracked, on_start}
-use Rattle.runner.proofs.Laws.States.{written_as}
+use Rattle.runner.proofs.Laws.States.{not_both, written_as}
 use Rattle.runner.proofs.Laws.Steady.{steady}
 
 -- ticks keep the number of records
@@ -48,27 +51,18 @@ ticks_long z ts us m n turns = go us n turns
     go ws j (more vs xs k l before going v w sized) =
         ap length v ∙ length-set vs k.pick (tick_as z (looked vs k) k).thread ∙ go vs k before
 
--- where nothing is to be done, nothing is
-stays : (z : Section) (ts us : List Record) (m n : Machine) → m.stage ≡ 2 → Ticks z ts m us n → (us ≡ ts) × (n ≡ m)
-stays z ts us m n e turns = go us n turns
-  where
-    go : (ws : List Record) (j : Machine) → Ticks z ts m ws j → (ws ≡ ts) × (j ≡ m)
-    go ws j ticks.start = (refl, refl)
-    go ws j (more vs xs k l before going v w sized) =
-        absurd (going (let s = go vs k before in ap (λ (q : Machine). q.stage) s.1 ∙ e))
-
 -- how far a run came, by its parts
 same_extent : (a b c : ℕ) (x : Result) → a ≡ x.read → b ≡ length x.state.threads → c ≡ x.state.made
     → ◌≡◌ {A = Extent} (record { read = a; threads = b; locks = c }) (extent_of x)
 same_extent a b c x e f g = rw (e, f, g) refl
 
--- an answer that is not for a stuck run is not stuck
-not_stuck_as : (w : End) (x y : Extent) → w ≢ stuck → ran_as w x ≢ Stuck y
-not_stuck_as all_ended x y n q = let z : ◌≡◌ {A = ℕ} 0 1 = cc in omega arith
-not_stuck_as stuck x y n q = n refl
-not_stuck_as at_end x y n q = let z : ◌≡◌ {A = ℕ} 0 1 = cc in omega arith
-not_stuck_as unstarted x y n q = let z : ◌≡◌ {A = ℕ} 0 1 = cc in omega arith
-not_stuck_as beyond x y n q = let z : ◌≡◌ {A = ℕ} 0 1 = cc in omega arith
+-- a run that is not stuck does not end so
+not_stuck_as : (w : End) → w ≢ stuck → ending_of w ≢ Stuck
+not_stuck_as all_ended n q = cc
+not_stuck_as stuck n q = n refl
+not_stuck_as at_end n q = cc
+not_stuck_as unstarted n q = cc
+not_stuck_as beyond n q = cc
 
 module _ (ks s heads links bs : List ℕ) (linked : Links ks s heads links) (P : Program) (h : Holds P ks s) where
   bodies : Bodies P (section ks s heads links bs)
@@ -108,9 +102,9 @@ module _ (ks s heads links bs : List ℕ) (linked : Links ks s heads links) (P :
       by (yes e) =
           let w : first_machine (length ts) ≡ unbegun_as (length ts) = rw (eq-eqb (length ts) 0 e) refl in
           let r : runs P (length ts) bs ≡ stop beyond 0 nothing = rw (eq-eqb (length ts) 0 e) refl in
-          subst Q (sym w) (nothing, (nothing_tracked (section ks s heads links bs) ts, over beyond refl refl r))
+          subst Q (sym w) (nothing, (nothing_tracked (section ks s heads links bs) ts, over beyond refl r))
       by (no n) =
-          let w : first_machine (length ts) ≡ starting_as (unbegun_as (length ts)) 0 (replicate most_names 0) most_locks =
+          let w : first_machine (length ts) ≡ starting_as (unbegun_as (length ts)) 0 (replicate most_names 0) Free =
           rw (ne_eqb (length ts) 0 n) refl in
           subst Q (sym w) (
             start P,
@@ -118,21 +112,25 @@ module _ (ks s heads links bs : List ℕ) (linked : Links ks s heads links) (P :
                 (begins_free P h.limits) (begins_small P h.limits),
           )
 
-  -- where the ticks end, the answer and the records are those of the run
-  ends : (ts us : List Record) (n : Machine) (r : Ran)
-      → Ticks (section ks s heads links bs) ts (first_machine (length ts)) us n → n.stage ≡ 2 → r ≡ answer_of n
-      → RunsAs P bs ts us r
-  ends ts us n r ticks e is = record {
+  -- the ticks can be taken
+  pub can_run : length bs < 2 ^ 64 → (ts : List Record) → Steady (section ks s heads links bs) ts (first_machine (length ts))
+  can_run l ts =
+      steady P (section ks s heads links bs) (runs P (length ts) bs) bodies (bounds l) ts (first_machine (length ts))
+      (begins ts)
+
+  -- where they end, the answer and the records are those of the run
+  pub has_run : (ts us : List Record) (x : Stop) → Stops (section ks s heads links bs) ts (first_machine (length ts)) us x
+      → RunsAs P bs ts us (Ok x)
+  has_run ts us x stops = record {
     answer = answer;
     records = subst (λ (v : List ℕ). ShowsAll v R.state.threads ts us) h.bytes_are (record {
-      as_many = ticks_long z ts us (first_machine (length ts)) n ticks;
+      as_many = ticks_long z ts us (first_machine (length ts)) n stops.ticks;
       shown = shown;
       kept = λ t g. let k = tracks.threads in
-          kept P z R bodies ts us (first_machine (length ts)) n ticks (begins ts) t (omega (arith, g, k));
+          kept P z R bodies ts us (first_machine (length ts)) n stops.ticks (begins ts) t (omega (arith, g, k));
     });
-    not_stuck = λ clear x q.
-        not_stuck_as R.why (extent_of R) x (never_stuck P (well_formed P h.limits) clear (length ts) bs)
-        (sym answer ∙ q);
+    not_stuck = λ clear y q.
+        not_stuck_as R.why (never_stuck P (well_formed P h.limits) clear (length ts) bs) (stuck_there y q);
   }
     where
       z : Section
@@ -141,63 +139,62 @@ module _ (ks s heads links bs : List ℕ) (linked : Links ks s heads links) (P :
       R : Result
       R = runs P (length ts) bs
 
-      result : (w : End) × (n.answer ≡ mark_of w)
-          × (runs P (length ts) bs ≡ stop w n.read (runs P (length ts) bs).state)
-          × Tracks (section ks s heads links bs) (runs P (length ts) bs).state us n
-      result =
-          on_over P z (runs P (length ts) bs) bodies us n
-          (on_ticks P z (runs P (length ts) bs) bodies ts us (first_machine (length ts)) n ticks (begins ts)) e
+      n : Machine
+      n = stops.last
 
-      tracks : Tracks (section ks s heads links bs) (runs P (length ts) bs).state us n
+      result : (w : End) × (x.ending ≡ ending_of w)
+          × (runs P (length ts) bs ≡ stop w stops.last.read (runs P (length ts) bs).state)
+          × Tracks (section ks s heads links bs) (runs P (length ts) bs).state us stops.last
+      result =
+          on_over P z (runs P (length ts) bs) bodies us n x.ending
+          (on_ticks P z (runs P (length ts) bs) bodies ts us (first_machine (length ts)) n stops.ticks (begins ts)) stops.over
+
+      tracks : Tracks (section ks s heads links bs) (runs P (length ts) bs).state us stops.last
       tracks = result.3
 
-      same : reached n ≡ extent_of (runs P (length ts) bs)
+      same : x.extent ≡ extent_of (runs P (length ts) bs)
       same =
-          same_extent n.read n.threads n.made (runs P (length ts) bs)
+          stops.extent
+          ∙ same_extent n.read n.threads n.made (runs P (length ts) bs)
           (sym (ap (λ (v : Result). v.read) result.2)) tracks.threads tracks.made
 
-      answer : r ≡ ran_as (runs P (length ts) bs).why (extent_of (runs P (length ts) bs))
+      why : x.ending ≡ ending_of (runs P (length ts) bs).why
+      why = result.1 ∙ ap ending_of (sym (ap (λ (v : Result). v.why) result.2))
+
+      stop_is : (e : Ending) (y : Extent) → x.ending ≡ e → x.extent ≡ y → x ≡ record { ending = e; extent = y }
+      stop_is e y p q = rw (sym p, sym q) refl
+
+      answer : ◌≡◌ {A = Ran} (Ok x) (ran_as (runs P (length ts) bs).why (extent_of (runs P (length ts) bs)))
       answer =
-          is ∙ sym (answer_is result.0 n.answer (reached n) result.1)
-          ∙ ap (ran_as result.0) same
-          ∙ ap (λ (v : End). ran_as v (extent_of (runs P (length ts) bs))) (sym (ap (λ (v : Result). v.why) result.2))
+          ap ok (stop_is (ending_of (runs P (length ts) bs).why) (extent_of (runs P (length ts) bs)) why same)
+        where
+          ok : Stop → Ran
+          ok v = Ok v
+
+      stuck_there : (y : Extent) → ◌≡◌ {A = Ran} (Ok x) (Ok (record { ending = Stuck; extent = y }))
+          → ending_of (runs P (length ts) bs).why ≡ Stuck
+      stuck_there y q = let e : x ≡ record { ending = Stuck; extent = y } = cc in sym why ∙ ap (λ (v : Stop). v.ending) e
 
       shown : (t : ℕ) → t < length (runs P (length ts) bs).state.threads
           → Shows s (get_or (runs P (length ts) bs).state.threads t ended) (get_or us t blank)
       shown t g =
-          let on : n.stage ≡ 0 → ⊥ = λ q. omega (arith, q, e) in
+          let on : is_born stops.last.stage ≡ false = ap is_born stops.over in
           shows z (thread (runs P (length ts) bs).state t) (get_or us t blank)
           (subst (λ (vs : List Record). Follows z (thread (runs P (length ts) bs).state t) (get_or vs t blank))
-          (written_as us n on) (tracks.follows t g (tracks.sized t g (λ q. absurd (on q)))))
+          (written_as us n on) (tracks.follows t g (tracks.sized t g (λ q. absurd (not_both stops.last.stage on q)))))
 
-module _ (table bs heads links : List ℕ) (ts : List Record) (m : Machine) where
-  -- the ticks can be taken
-  pub can_run : Prepared table bs (length ts) heads links m → Steady (section_of table heads links bs) ts m
-  can_run p = by (check_table table) p.by_check
-    where
-      by : (o : Outcome) → PreparedBy o table (length ts) heads links m → Steady (section_of table heads links bs) ts m
-      by (refused e) q = λ us n ticks going.
-          absurd (going
-          (let t = stays (section_of table heads links bs) ts us m n (ap (λ (v : Machine). v.stage) q) ticks in
-          ap (λ (v : Machine). v.stage) (t.1 ∙ q)))
-      by (accepted P) (e, h, linked) =
-          subst (λ (v : Machine). Steady (section_of table heads links bs) ts v) (sym e)
-          (steady P (section_of table heads links bs) (runs P (length ts) bs)
-          (bodies (counts_in table) (bytes_in table) heads links bs linked P h)
-          (bounds (counts_in table) (bytes_in table) heads links bs linked P h p.countable) ts
-          (first_machine (length ts)) (begins (counts_in table) (bytes_in table) heads links bs linked P h ts))
+-- the answer for a table that is accepted
+pub accepted_runs : (table ks s heads links bs : List ℕ) (P : Program) → SectionsOf P table ks s → Links ks s heads links
+    → (ts us : List Record) (x : Stop) → Stops (section ks s heads links bs) ts (first_machine (length ts)) us x
+    → Runs (check_table table) bs ts us (Ok x)
+accepted_runs table ks s heads links bs P t linked ts us x stops =
+    subst (λ (o : Outcome). Runs o bs ts us (Ok x)) (sym t.accepts)
+    (has_run ks s heads links bs linked P t.holds ts us x stops)
 
-  -- and end as the run does
-  pub has_run : (us : List Record) (n : Machine) (r : Ran) → Prepared table bs (length ts) heads links m
-      → Ticks (section_of table heads links bs) ts m us n → n.stage ≡ 2 → r ≡ answer_of n
-      → Runs (check_table table) bs ts us r
-  has_run us n r p ticks e is = by (check_table table) refl p.by_check
-    where
-      by : (o : Outcome) → check_table table ≡ o → PreparedBy o table (length ts) heads links m → Runs o bs ts us r
-      by (refused x) o q =
-          let t = stays (section_of table heads links bs) ts us m n (ap (λ (v : Machine). v.stage) q) ticks in
-          let l = refusals table x o in
-          (is ∙ ap answer_of (t.1 ∙ q) ∙ sym (answer_low x _ l.0 l.1), t.0)
-      by (accepted P) o (first, h, linked) =
-          ends (counts_in table) (bytes_in table) heads links bs linked P h ts us n r
-          (subst (λ (v : Machine). Ticks (section_of table heads links bs) ts v us n) first ticks) e is
+-- and for one that is refused
+pub refused_runs : (table bs : List ℕ) (e : ℕ) → check_table table ≡ refused e → (ts : List Record)
+    → Runs (check_table table) bs ts ts (Err (refusal_of e))
+refused_runs table bs e o ts =
+    let l = refusals table e o in
+    subst (λ (v : Outcome). Runs v bs ts ts (Err (refusal_of e))) (sym o)
+    (refl, number_of_refusal e l.0 (omega (arith, l.1)), refl)

@@ -1,7 +1,7 @@
 -- What the machine does next is what the run under the schedule does next.
-use Rattle.std.specs.Prelude.{◌≡◌, refl, Bool, true, false, cond, List, [], ◌∷◌, ℕ, zero, suc, ◌%◌, ◌<◌, ◌≤◌, eqb}
+use Rattle.std.specs.Prelude.{◌≡◌, refl, Bool, true, false, cond, List, [], ◌∷◌, ℕ, zero, suc, ◌%◌, ◌<◌, ◌≤◌}
 use Rattle.std.specs.Prelude.{length, get_or, drop, set}
-use Rattle.std.proofs.Common.{sym, ◌∙◌, ap, subst, arith, length-set, ne_eqb, le-leb}
+use Rattle.std.proofs.Common.{sym, ◌∙◌, ap, subst, arith, length-set, le-leb}
 use Rattle.std.proofs.Math.Decide.{dec_lt}
 use Rattle.steps.specs.Records.{born_at}
 use Rattle.runner.specs.Ticks.{looked}
@@ -14,11 +14,15 @@ use Rattle.schedule.specs.Schedule.{stuck, at_end, unstarted, beyond, Result, st
 use Rattle.steps.specs.declared.thread.Thread.{Thread as Record}
 use Rattle.steps.specs.Shown.{blank}
 use Rattle.steps.specs.declared.machine.Machine.{Machine}
-use Rattle.steps.specs.Machines.{ended_mark, stuck_mark, open_mark, unstarted_mark, beyond_mark}
+use Rattle.steps.specs.declared.machine.Ending.{Ending}
+use Rattle.steps.specs.declared.machine.Ending.TheVariants.{Ended, Stuck, Open, Unstarted}
+use Rattle.steps.specs.declared.machine.Stage.TheVariants.{Born, Turn, Over}
+use Rattle.steps.specs.Machines.{is_born, is_open}
+use Rattle.runner.specs.Answer.{ending_of}
 use Rattle.steps.specs.Machines.{turned, over_as, view, next_byte, settled_as}
 use Rattle.links.specs.Lies.{Section}
 use Rattle.runner.specs.Ticks.{Sized}
-use Rattle.runner.specs.Tracks.{outlook_number, written, Tracks}
+use Rattle.runner.specs.Tracks.{outlook_ending, written, Tracks}
 use Rattle.runner.proofs.Laws.Outlooks.{view_is}
 use Rattle.runner.proofs.Laws.States.{written_as}
 
@@ -34,14 +38,6 @@ drop_end [] (suc i) h = refl
 drop_end (x ∷ l) zero h = absurd (omega (arith, h))
 drop_end (x ∷ l) (suc i) h = drop_end l i (omega (arith, h))
 
--- the mark of why a run stopped
-abbrev pub mark_of : End → ℕ
-mark_of all_ended = ended_mark
-mark_of stuck = stuck_mark
-mark_of at_end = open_mark
-mark_of unstarted = unstarted_mark
-mark_of beyond = beyond_mark
-
 -- the result of the whole run is that of the bytes that are left, in this state
 abbrev pub Next : Program → Section → Result → State → Machine → Type 0
 Next P z R s m = R ≡ run_from P m.lent s m.read (drop m.read z.schedule)
@@ -55,17 +51,17 @@ pub record Due (z : Section) (s : State) (m : Machine) : Type 0 where
 
 -- the machine at each stage: a record is to be written, a byte to be taken, or the run has stopped
 pub data Stage (P : Program) (z : Section) (R : Result) (s : State) (m : Machine) : Type 0 where
-  births : m.stage ≡ 0 → m.pick < length s.threads → Next P z R s m → Stage P z R s m
-  turns : m.stage ≡ 1 → Next P z R s m → Due z s m → Stage P z R s m
-  over : (w : End) → m.stage ≡ 2 → m.answer ≡ mark_of w → R ≡ stop w m.read s → Stage P z R s m
+  births : m.stage ≡ Born → m.pick < length s.threads → Next P z R s m → Stage P z R s m
+  turns : m.stage ≡ Turn → Next P z R s m → Due z s m → Stage P z R s m
+  over : (w : End) → m.stage ≡ Over (ending_of w) → R ≡ stop w m.read s → Stage P z R s m
 
 -- the machine's fields that track the state are kept
 pub tracks_as :
     (z : Section) (s : State) (ts us : List Record) (m k : Machine) → Tracks z s ts m
     → ((t : ℕ) → t < length s.threads → Sized (get_or (written ts m) t blank)) → written us k ≡ written ts m
-    → length us ≡ length ts → k.threads ≡ m.threads → k.lent ≡ m.lent → k.made ≡ m.made → k.owner ≡ m.owner
-    → k.count ≡ m.count → k.wants ≡ m.wants → Tracks z s us k
-tracks_as z s ts us m k tr all w long a b c d e f = record {
+    → length us ≡ length ts → k.threads ≡ m.threads → k.lent ≡ m.lent → k.made ≡ m.made → k.locks ≡ m.locks
+    → k.wants ≡ m.wants → Tracks z s us k
+tracks_as z s ts us m k tr all w long a b c d f = record {
   threads = a ∙ tr.threads;
   few = tr.few;
   lent = b ∙ tr.lent ∙ sym long;
@@ -74,10 +70,9 @@ tracks_as z s ts us m k tr all w long a b c d e f = record {
   few_locks = tr.few_locks;
   follows = λ t h y. rw w (tr.follows t h (all t h));
   sized = λ t h y. rw w (all t h);
-  held = λ u l h. tr.held u l h ∙ rw (d, e) refl;
+  held = λ u l h. tr.held u l h ∙ rw d refl;
   wants = record { wanted = λ t h. rw f (tr.wants.wanted t h); small = tr.wants.small };
-  owners = rw d tr.owners;
-  counts = rw e tr.counts;
+  locks_long = rw d tr.locks_long;
   wants_long = rw f tr.wants_long;
 }
 
@@ -122,32 +117,32 @@ run_turn P lent s n b l e h k = rw (e, lt-leb (length s.threads) (b % most_threa
 
 -- as many records, with the one that is still to be written
 pub written_long : (ts : List Record) (m : Machine) → length (written ts m) ≡ length ts
-written_long ts m = by (eqb m.stage 0)
+written_long ts m = by (is_born m.stage)
   where
     by : (q : Bool) → length (cond q (set ts m.pick (born_at (looked ts m) m.head m.born)) ts) ≡ length ts
     by true = length-set ts m.pick (born_at (looked ts m) m.head m.born)
     by false = refl
 
 -- the machine settles as the outlook says
-settled_over : (m : Machine) (bs : List ℕ) (v : ℕ) → view m m.threads ≡ v → (v ≡ open_mark → ⊥)
+settled_over : (m : Machine) (bs : List ℕ) (v : Ending) → view m m.threads ≡ v → is_open v ≡ false
     → settled_as m bs ≡ over_as m v
-settled_over m bs v e n = rw (e, ne_eqb v open_mark n) refl
+settled_over m bs v e n = rw (e, n) refl
 
-settled_next : (m : Machine) (bs : List ℕ) → view m m.threads ≡ open_mark → settled_as m bs ≡ next_byte m bs
+settled_next : (m : Machine) (bs : List ℕ) → view m m.threads ≡ Open → settled_as m bs ≡ next_byte m bs
 settled_next m bs e = rw e refl
 
-byte_none : (m : Machine) (bs : List ℕ) → length bs ≤ m.read → next_byte m bs ≡ over_as m open_mark
+byte_none : (m : Machine) (bs : List ℕ) → length bs ≤ m.read → next_byte m bs ≡ over_as m Open
 byte_none m bs h = rw (le-leb (length bs) m.read h) refl
 
 byte_unstarted :
     (m : Machine) (bs : List ℕ) → m.read < length bs → m.threads ≤ get_or bs m.read 0 % most_threads
-    → next_byte m bs ≡ over_as m unstarted_mark
+    → next_byte m bs ≡ over_as m Unstarted
 byte_unstarted m bs h k =
     rw (lt-leb (length bs) m.read h, le-leb m.threads (get_or bs m.read 0 % most_threads) k) refl
 
 byte_turn :
     (m : Machine) (bs : List ℕ) → m.read < length bs → get_or bs m.read 0 % most_threads < m.threads
-    → next_byte m bs ≡ turned m 1 m.answer m.read (get_or bs m.read 0 % most_threads)
+    → next_byte m bs ≡ turned m Turn m.read (get_or bs m.read 0 % most_threads)
 byte_turn m bs h k =
     rw (lt-leb (length bs) m.read h, lt-leb m.threads (get_or bs m.read 0 % most_threads) k) refl
 
@@ -164,16 +159,16 @@ settles P z R s ts m tr all next = by (outlook s) refl
     Q : Machine → Type 0
     Q k = Tracks z s (written ts m) k × Stage P z R s k
 
-    ends : (w : End) → R ≡ stop w m.read s → Q (over_as m (mark_of w))
+    ends : (w : End) → R ≡ stop w m.read s → Q (over_as m (ending_of w))
     ends w e = (
-      tracks_as z s ts (written ts m) m (over_as m (mark_of w)) tr all
-          (written_as (written ts m) (over_as m (mark_of w)) (λ q. omega (arith, q))) (written_long ts m)
-          refl refl refl refl refl refl,
-      over w refl refl e,
+      tracks_as z s ts (written ts m) m (over_as m (ending_of w)) tr all
+          (written_as (written ts m) (over_as m (ending_of w)) refl) (written_long ts m)
+          refl refl refl refl refl,
+      over w refl e,
     )
 
-    seen : (o : Outlook) → outlook s ≡ o → view m m.threads ≡ outlook_number o
-    seen o e = view_is s m tr.held tr.wants tr.threads ∙ ap outlook_number e
+    seen : (o : Outlook) → outlook s ≡ o → view m m.threads ≡ outlook_ending o
+    seen o e = view_is s m tr.held tr.wants tr.threads ∙ ap outlook_ending e
 
     can : outlook s ≡ some_can → Dec (m.read < length z.schedule) → Q (next_byte m z.schedule)
     can e (no n) =
@@ -201,19 +196,19 @@ settles P z R s ts m tr all next = by (outlook s) refl
             let k = tr.threads in
             subst Q (sym (byte_turn m z.schedule h g)) (
               tracks_as z s ts (written ts m) m
-                  (turned m 1 m.answer m.read (get_or z.schedule m.read 0 % most_threads)) tr all
+                  (turned m Turn m.read (get_or z.schedule m.read 0 % most_threads)) tr all
                   (written_as (written ts m)
-                  (turned m 1 m.answer m.read (get_or z.schedule m.read 0 % most_threads))
-                  (λ q. omega (arith, q))) (written_long ts m) refl refl refl refl refl refl,
+                  (turned m Turn m.read (get_or z.schedule m.read 0 % most_threads))
+                  refl) (written_long ts m) refl refl refl refl refl,
               turns refl next (record { some = e; inside = h; picks = refl; started = omega (arith, g, k) }),
             )
 
     by : (o : Outlook) → outlook s ≡ o → Q (settled_as m z.schedule)
     by none_left e =
-        subst Q (sym (settled_over m z.schedule ended_mark (seen none_left e) (λ q. omega (arith, q))))
+        subst Q (sym (settled_over m z.schedule Ended (seen none_left e) refl))
         (ends all_ended (next ∙ run_ended P m.lent s m.read (drop m.read z.schedule) e))
     by all_wait e =
-        subst Q (sym (settled_over m z.schedule stuck_mark (seen all_wait e) (λ q. omega (arith, q))))
+        subst Q (sym (settled_over m z.schedule Stuck (seen all_wait e) refl))
         (ends stuck (next ∙ run_stuck P m.lent s m.read (drop m.read z.schedule) e))
     by some_can e =
         subst Q (sym (settled_next m z.schedule (seen some_can e)))

@@ -8,6 +8,7 @@ use Rattle.table.specs.Encoding.{encode, WithinLimits}
 use Rattle.run.specs.Run.{held, alternative, called, Frame, frame, Thread, ended, at, locks}
 use Rattle.schedule.specs.Limits.{most_locks}
 use Rattle.steps.specs.declared.thread.Thread.{Thread as Record}
+use Rattle.steps.specs.declared.machine.Want.TheVariants.{Free}
 use Rattle.links.specs.Laws.Bytes.{op_for, closer_is}
 use Rattle.steps.specs.Shown.{Stands, GoesOn, Shows}
 use Rattle.links.specs.Lies.{Section, link_at, IsAt, closer, Lies}
@@ -134,7 +135,7 @@ shows z (at c e fs) r f = record {
 }
 
 -- with no name in scope a code begins with no LOCK
-free_code : (P : Program) (k : ℕ) (c : Code) → Scoped P k [] c → want_of (at c (λ x. 0) []) ≡ most_locks
+free_code : (P : Program) (k : ℕ) (c : Code) → Scoped P k [] c → want_of (at c (λ x. 0) []) ≡ Free
 free_code P k end s = refl
 free_code P k (new x c) s = refl
 free_code P k (lock x c d) s = absurd s.0
@@ -158,7 +159,7 @@ first_scoped P h =
     subst (λ (v : List ℕ). Scoped P (params P 0) v (body P 0)) (ap names h.main) (h.fits 0
     h.some_routine).scoped
 
-pub begins_free : (P : Program) → WithinLimits P → want_of (at (body P 0) (λ x. 0) []) ≡ most_locks
+pub begins_free : (P : Program) → WithinLimits P → want_of (at (body P 0) (λ x. 0) []) ≡ Free
 begins_free P h = free_code P (params P 0) (body P 0) (first_scoped P h)
 
 pub begins_small : (P : Program) → WithinLimits P → SmallWant (at (body P 0) (λ x. 0) [])

@@ -9,7 +9,8 @@ use Rattle.schedule.specs.Limits.{most_locks}
 use Rattle.schedule.specs.Schedule.{runs, run_from}
 use Rattle.steps.specs.declared.thread.Thread.{Thread as Record}
 use Rattle.steps.specs.Records.{taken, born_at}
-use Rattle.steps.specs.Machines.{starting_as}
+use Rattle.steps.specs.Machines.{untaken, starting_as}
+use Rattle.steps.specs.declared.machine.Want.TheVariants.{Free}
 use Rattle.links.specs.Lies.{Section}
 use Rattle.runner.specs.Parts.{unbegun_as}
 use Rattle.runner.specs.Ticks.{Sized}
@@ -35,16 +36,19 @@ nothing_tracked z ts = record {
   few_locks = omega arith;
   follows = λ t h y. absurd (omega (arith, h));
   sized = λ t h y. absurd (omega (arith, h));
-  held = λ u l h. sym (none l h (eqb (get_or (replicate most_locks 0) l 0) u));
+  held = λ u l h. sym (none l u h);
   wants = record { wanted = λ t h. absurd (omega (arith, h)); small = λ t. tt };
-  owners = refl;
-  counts = refl;
+  locks_long = refl;
   wants_long = refl;
 }
   where
-    none : (l : ℕ) → l < most_locks → (b : Bool) → ◌≡◌ {A = ℕ} (cond b (get_or (replicate most_locks 0) l 0) 0) 0
-    none l h true = get_or-replicate most_locks l 0 0 h
-    none l h false = refl
+    zeros : (b : Bool) → ◌≡◌ {A = ℕ} (cond b 0 0) 0
+    zeros true = refl
+    zeros false = refl
+
+    none : (l u : ℕ) → l < most_locks
+        → cond (eqb (get_or (replicate most_locks untaken) l untaken).owner u) (get_or (replicate most_locks untaken) l untaken).count 0 ≡ 0
+    none l u h = rw (get_or-replicate most_locks l untaken untaken h) (zeros (eqb 0 u))
 
 -- thread 0's record, once it is written
 first_follows :
@@ -74,13 +78,13 @@ first_follows z c to u lies sized = record {
 -- the start of a run, where some record is lent and routine 0's body stands at offset 0 and begins with no LOCK
 pub on_start :
     (P : Program) (z : Section) (ts : List Record) (to : ℕ) → 1 ≤ length ts → Lies z false 0 (body P 0) to
-    → want_of (at (body P 0) (λ x. 0) []) ≡ most_locks → SmallWant (at (body P 0) (λ x. 0) [])
+    → want_of (at (body P 0) (λ x. 0) []) ≡ Free → SmallWant (at (body P 0) (λ x. 0) [])
     → On P z (runs P (length ts) z.schedule) (start P) ts
-    (starting_as (unbegun_as (length ts)) 0 (replicate most_names 0) most_locks)
+    (starting_as (unbegun_as (length ts)) 0 (replicate most_names 0) Free)
 unfolding with_more
 on_start P z ts to some lies free small = (
-  tracks_more z nothing ts (unbegun_as (length ts)) 0 (replicate most_names 0) most_locks (at (body P 0) (λ x. 0) [])
-      (nothing_tracked z ts) (λ q. omega (arith, q)) (omega arith) some (sym free) small refl
+  tracks_more z nothing ts (unbegun_as (length ts)) 0 (replicate most_names 0) Free (at (body P 0) (λ x. 0) [])
+      (nothing_tracked z ts) refl (omega arith) some (sym free) small refl
       (λ u sized. first_follows z (body P 0) to u lies sized),
   births refl (omega arith) (whole (length ts) some),
 )

@@ -12,6 +12,13 @@ use Rattle.steps.specs.Records.{lock_of}
 use Rattle.steps.specs.Shown.{blank}
 use Rattle.steps.specs.declared.machine.Machine.{Machine}
 use Rattle.steps.specs.Machines.{want_at, taken_by, given_back}
+use Rattle.steps.specs.declared.machine.Ending.{Ending}
+use Rattle.steps.specs.declared.machine.Stage.{Stage}
+use Rattle.steps.specs.declared.machine.Stage.TheVariants.{Born, Turn, Over}
+use Rattle.steps.specs.Machines.{is_born, is_over, untaken, lock_at}
+use Rattle.steps.specs.declared.machine.Want.TheVariants.{Free}
+use Rattle.steps.specs.declared.machine.Want.TheVariants as want
+use Rattle.steps.specs.declared.machine.Lock.{Lock}
 use Rattle.links.specs.Lies.{Section, Lies}
 use Rattle.runner.specs.Ticks.{Sized}
 use Rattle.links.specs.Lies.{byte_at, closer}
@@ -21,7 +28,7 @@ use Rattle.runner.proofs.Laws.Items.{same_lock}
 
 -- an item that is no LOCK wants nothing
 free_at : (z : Section) (t : Record) (from b : ℕ) → byte_at z from ≡ b → (b ≡ code LOCK → ⊥)
-    → want_at z.bytes t from ≡ most_locks
+    → want_at z.bytes t from ≡ Free
 free_at z t from b e n = rw (ne_eqb (get_or z.bytes from 0) (code LOCK) (λ q. n (sym e ∙ q))) refl
 
 closer_free : (o : Bool) → closer o ≡ code LOCK → ⊥
@@ -37,7 +44,7 @@ want_here z q from end to t e gs l n = free_at z t from (closer q) l.0.1 (closer
 want_here z q from (new x c) to t e gs l n = free_at z t from (code NEW) l.0.1 (λ j. omega (arith, j))
 want_here z q from (lock x c d) to t e gs l n =
     let b : get_or z.bytes from 0 ≡ code LOCK = l.0.1 in
-    rw (eq-eqb (get_or z.bytes from 0) (code LOCK) b) (ap (lock_of t) l.1.1 ∙ n x l.2)
+    rw (eq-eqb (get_or z.bytes from 0) (code LOCK) b) (ap (λ (v : ℕ). want.Lock v) (ap (lock_of t) l.1.1 ∙ n x l.2))
 want_here z q from (fork i c d) to t e gs l n = free_at z t from (code FORK) l.0.1 (λ j. omega (arith, j))
 want_here z q from (choice a b c) to t e gs l n = free_at z t from (code CHOICE) l.0.1 (λ j. omega (arith, j))
 want_here z q from (call r xs c) to t e gs l n = free_at z t from (code CALL) l.0.1 (λ j. omega (arith, j))
@@ -79,7 +86,7 @@ held_same s m t made x within same held u l h = by (ℕ_discrete u t)
   where
     by : Dec (u ≡ t)
         → occurs l (holds (get_or (set s.threads t x) u ended))
-        ≡ cond (eqb (get_or m.owner l 0) u) (get_or m.count l 0) 0
+        ≡ cond (eqb (lock_at m l).owner u) (lock_at m l).count 0
     by (yes e) =
         rw e
         (ap (λ (y : Thread). occurs l (holds y)) (get_or-set_same s.threads t x ended within) ∙ same l ∙ held t l h)
@@ -88,124 +95,140 @@ held_same s m t made x within same held u l h = by (ℕ_discrete u t)
 -- who holds what, after thread t took the lock k, which no other thread held
 pub held_taken :
     (s : State) (m : Machine) (t made k : ℕ) (x : Thread) → t < length s.threads → k < most_locks
-    → length m.owner ≡ most_locks → length m.count ≡ most_locks
+    → length m.locks ≡ most_locks
     → ((u : ℕ) → u ≢ t → occurs k (holds (thread s u)) ≡ 0)
     → ((l : ℕ) → occurs l (holds x)
     ≡ cond (eqb k l) (suc (occurs l (holds (thread s t)))) (occurs l (holds (thread s t))))
     → Held s m → Held (with_thread s t x made) (taken_by m t k)
 unfolding with_thread
-held_taken s m t made k x within small owners counts alone more held u l h = by (ℕ_discrete u t) (ℕ_discrete k l)
+held_taken s m t made k x within small long alone more held u l h = by (ℕ_discrete u t) (ℕ_discrete k l)
   where
-    now_k : get_or (set m.owner k t) k 0 ≡ t
-    now_k = get_or-set_same m.owner k t 0 (omega (arith, small, owners))
+    new : Lock
+    new = record { owner = t; count = (lock_at m k).count + 1 }
+
+    took : get_or (set m.locks k new) k untaken ≡ new
+    took = get_or-set_same m.locks k new untaken (omega (arith, small, long))
+
+    other : (k ≡ l → ⊥) → get_or (set m.locks k new) l untaken ≡ get_or m.locks l untaken
+    other q = get_or-set_other m.locks k l new untaken (λ g. q (sym g))
 
     -- before, thread t held the lock as often as the count says
-    before : occurs k (holds (thread s t)) ≡ get_or m.count k 0
-    before = own (ℕ_discrete (get_or m.owner k 0) t)
+    before : occurs k (holds (thread s t)) ≡ (lock_at m k).count
+    before = own (ℕ_discrete (lock_at m k).owner t)
       where
-        own : Dec (get_or m.owner k 0 ≡ t) → occurs k (holds (thread s t)) ≡ get_or m.count k 0
-        own (yes e) = held t k small ∙ rw (eq-eqb (get_or m.owner k 0) t e) refl
+        own : Dec ((lock_at m k).owner ≡ t) → occurs k (holds (thread s t)) ≡ (lock_at m k).count
+        own (yes e) = held t k small ∙ rw (eq-eqb (lock_at m k).owner t e) refl
         own (no n) =
-            let o = get_or m.owner k 0 in
+            let o = (lock_at m k).owner in
             let a : occurs k (holds (thread s t)) ≡ 0 = held t k small ∙ rw (ne_eqb o t n) refl in
-            let b : occurs k (holds (thread s o)) ≡ get_or m.count k 0 = held o k small ∙ rw (eq-eqb o o refl) refl in
+            let b : occurs k (holds (thread s o)) ≡ (lock_at m k).count = held o k small ∙ rw (eq-eqb o o refl) refl in
             a ∙ sym (alone o n) ∙ b
 
     by : Dec (u ≡ t) → Dec (k ≡ l)
         → occurs l (holds (get_or (set s.threads t x) u ended))
-        ≡ cond (eqb (get_or (set m.owner k t) l 0) u) (get_or (set m.count k (get_or m.count k 0 + 1)) l 0) 0
+        ≡ cond (eqb (get_or (set m.locks k new) l untaken).owner u) (get_or (set m.locks k new) l untaken).count 0
     by (yes e) (yes q) =
         rw (e, sym q)
         (ap (λ (y : Thread). occurs k (holds y)) (get_or-set_same s.threads t x ended within) ∙ more k
         ∙ rw (
           eq-eqb k k refl,
-          now_k,
+          took,
           eq-eqb t t refl,
-          get_or-set_same m.count k (get_or m.count k 0 + 1) 0 (omega (arith, small, counts)),
         )
         (let b = before in omega (arith, b)))
     by (yes e) (no q) =
-        rw (
-          e,
-          get_or-set_other m.owner k l t 0 (λ g. q (sym g)),
-          get_or-set_other m.count k l (get_or m.count k 0 + 1) 0 (λ g. q (sym g)),
-        )
+        rw (e, other q)
         (ap (λ (y : Thread). occurs l (holds y)) (get_or-set_same s.threads t x ended within) ∙ more l
         ∙ rw (ne_eqb k l q) (held t l h))
     by (no n) (yes q) =
         rw (sym q)
         (ap (λ (y : Thread). occurs k (holds y)) (get_or-set_other s.threads t u x ended n) ∙ alone u n
-        ∙ rw (now_k, ne_eqb t u (λ g. n (sym g))) refl)
+        ∙ rw (took, ne_eqb t u (λ g. n (sym g))) refl)
     by (no n) (no q) =
-        rw (
-          get_or-set_other m.owner k l t 0 (λ g. q (sym g)),
-          get_or-set_other m.count k l (get_or m.count k 0 + 1) 0 (λ g. q (sym g)),
-        )
+        rw (other q)
         (ap (λ (y : Thread). occurs l (holds y)) (get_or-set_other s.threads t u x ended n) ∙ held u l h)
 
 -- who holds what, after thread t gave back one hold of the lock k
 pub held_given :
     (s : State) (m : Machine) (t made k : ℕ) (x : Thread) → t < length s.threads → k < most_locks
-    → length m.count ≡ most_locks
+    → length m.locks ≡ most_locks
     → ((l : ℕ) → occurs l (holds (thread s t)) ≡ cond (eqb k l) (suc (occurs l (holds x))) (occurs l (holds x)))
-    → Held s m → Held (with_thread s t x made) (given_back m k) × (1 ≤ get_or m.count k 0)
+    → Held s m → Held (with_thread s t x made) (given_back m k) × (1 ≤ (lock_at m k).count)
 unfolding with_thread
-held_given s m t made k x within small counts less before =
+held_given s m t made k x within small long less before =
     (λ u l h. by u l h (ℕ_discrete u t) (ℕ_discrete k l), let a = was in let b = count_is in omega (arith, a, b))
   where
+    new : Lock
+    new = record { owner = (lock_at m k).owner; count = (lock_at m k).count - 1 }
+
+    gave : get_or (set m.locks k new) k untaken ≡ new
+    gave = get_or-set_same m.locks k new untaken (omega (arith, small, long))
+
+    other : (l : ℕ) → (k ≡ l → ⊥) → get_or (set m.locks k new) l untaken ≡ get_or m.locks l untaken
+    other l q = get_or-set_other m.locks k l new untaken (λ g. q (sym g))
+
     was : occurs k (holds (thread s t)) ≡ suc (occurs k (holds x))
     was = less k ∙ rw (eq-eqb k k refl) refl
 
     -- the lock is thread t's
-    owned : get_or m.owner k 0 ≡ t
-    owned = own (ℕ_discrete (get_or m.owner k 0) t)
+    owned : (lock_at m k).owner ≡ t
+    owned = own (ℕ_discrete (lock_at m k).owner t)
       where
-        own : Dec (get_or m.owner k 0 ≡ t) → get_or m.owner k 0 ≡ t
+        own : Dec ((lock_at m k).owner ≡ t) → (lock_at m k).owner ≡ t
         own (yes e) = e
         own (no n) =
-            let a : occurs k (holds (thread s t)) ≡ 0 = before t k small ∙ rw (ne_eqb (get_or m.owner k 0) t n) refl in
+            let a : occurs k (holds (thread s t)) ≡ 0 = before t k small ∙ rw (ne_eqb (lock_at m k).owner t n) refl in
             let b = was in
             absurd (omega (arith, a, b))
 
-    count_is : occurs k (holds (thread s t)) ≡ get_or m.count k 0
-    count_is = before t k small ∙ rw (eq-eqb (get_or m.owner k 0) t owned) refl
+    count_is : occurs k (holds (thread s t)) ≡ (lock_at m k).count
+    count_is = before t k small ∙ rw (eq-eqb (lock_at m k).owner t owned) refl
 
     by : (u l : ℕ) → l < most_locks → Dec (u ≡ t) → Dec (k ≡ l)
         → occurs l (holds (get_or (set s.threads t x) u ended))
-        ≡ cond (eqb (get_or m.owner l 0) u) (get_or (set m.count k (get_or m.count k 0 - 1)) l 0) 0
+        ≡ cond (eqb (get_or (set m.locks k new) l untaken).owner u) (get_or (set m.locks k new) l untaken).count 0
     by u l h (yes e) (yes q) =
         rw (e, sym q)
         (ap (λ (y : Thread). occurs k (holds y)) (get_or-set_same s.threads t x ended within)
         ∙ rw (
-          eq-eqb (get_or m.owner k 0) t owned,
-          get_or-set_same m.count k (get_or m.count k 0 - 1) 0 (omega (arith, small, counts)),
+          gave,
+          eq-eqb (lock_at m k).owner t owned,
         )
         (let a = was in let b = count_is in omega (arith, a, b)))
     by u l h (yes e) (no q) =
-        rw (e, get_or-set_other m.count k l (get_or m.count k 0 - 1) 0 (λ g. q (sym g)))
+        rw (e, other l q)
         (ap (λ (y : Thread). occurs l (holds y)) (get_or-set_same s.threads t x ended within)
         ∙ sym (less l ∙ rw (ne_eqb k l q) refl) ∙ before t l h)
     by u l h (no n) (yes q) =
         rw (sym q)
         (ap (λ (y : Thread). occurs k (holds y)) (get_or-set_other s.threads t u x ended n) ∙ before u k small
-        ∙ rw (ne_eqb (get_or m.owner k 0) u (λ g. n (sym g ∙ owned))) refl)
+        ∙ rw (gave, ne_eqb (lock_at m k).owner u (λ g. n (sym g ∙ owned))) refl)
     by u l h (no n) (no q) =
-        rw (get_or-set_other m.count k l (get_or m.count k 0 - 1) 0 (λ g. q (sym g)))
+        rw (other l q)
         (ap (λ (y : Thread). occurs l (holds y)) (get_or-set_other s.threads t u x ended n) ∙ before u l h)
 
+-- a record is still to be written or not
+pub not_both : (w : Stage) → is_born w ≡ false → is_born w ≡ true → ⊥
+not_both w p q = let z : ◌≡◌ {A = Bool} false true = sym p ∙ q in cc
+
+-- a stage that is not Over is another
+pub not_over : (w : Stage) → ((e : Ending) → w ≡ Over e → ⊥) → is_over w ≡ false
+not_over Born n = refl
+not_over Turn n = refl
+not_over (Over e) n = absurd (n e refl)
+
 -- no record is still to be written
-pub written_as : (ts : List Record) (m : Machine) → (m.stage ≡ 0 → ⊥) → written ts m ≡ ts
-written_as ts m n = rw (ne_eqb m.stage 0 n) refl
+pub written_as : (ts : List Record) (m : Machine) → is_born m.stage ≡ false → written ts m ≡ ts
+written_as ts m n = rw (n) refl
 
 -- a step of thread t, which becomes x and is followed by u; who holds what is tracked by the machine k
 pub tracks_step :
     (z : Section) (s : State) (ts : List Record) (m k : Machine) (t made : ℕ) (x : Thread) (u : Record)
-    → Tracks z s ts m → (m.stage ≡ 0 → ⊥) → (k.stage ≡ 0 → ⊥) → t < length s.threads → Follows z x u → Sized u
+    → Tracks z s ts m → is_born m.stage ≡ false → is_born k.stage ≡ false → t < length s.threads → Follows z x u → Sized u
     → SmallWant x → made ≤ most_locks → k.threads ≡ m.threads → k.lent ≡ m.lent → k.made ≡ made
-    → k.wants ≡ set m.wants t (want_of x) → Held (with_thread s t x made) k → length k.owner ≡ most_locks
-    → length k.count ≡ most_locks → Tracks z (with_thread s t x made) (set ts t u) k
+    → k.wants ≡ set m.wants t (want_of x) → Held (with_thread s t x made) k → length k.locks ≡ most_locks → Tracks z (with_thread s t x made) (set ts t u) k
 unfolding with_thread
-tracks_step z s ts m k t made x u tr going on within fx sized small few kt kl km kw held owners counts = record {
+tracks_step z s ts m k t made x u tr going on within fx sized small few kt kl km kw held long = record {
   threads = kt ∙ tr.threads ∙ sym (length-set s.threads t x);
   few = rw (length-set s.threads t x) tr.few;
   lent = kl ∙ tr.lent ∙ sym (length-set ts t u);
@@ -219,13 +242,12 @@ tracks_step z s ts m k t made x u tr going on within fx sized small few kt kl km
     wanted = λ i h. want i (rw (length-set s.threads t x) at h) (ℕ_discrete i t);
     small = λ i. small_want i (ℕ_discrete i t);
   };
-  owners = owners;
-  counts = counts;
+  locks_long = long;
   wants_long = rw (kw, length-set m.wants t (want_of x)) tr.wants_long;
 }
   where
     size : (i : ℕ) → i < length s.threads → Sized (get_or (written ts m) i blank)
-    size i h = tr.sized i h (λ q. absurd (going q))
+    size i h = tr.sized i h (λ q. absurd (not_both m.stage going q))
 
     lent : t < length ts
     lent = let r = tr.room in omega (arith, within, r)
@@ -249,14 +271,14 @@ tracks_step z s ts m k t made x u tr going on within fx sized small few kt kl km
     all_sized i h (no n) = rw (now, get_or-set_other ts t i u blank n) (rw was at (size i h))
 
     want : (i : ℕ) → i < length s.threads → Dec (i ≡ t)
-        → get_or k.wants i 0 ≡ want_of (get_or (set s.threads t x) i ended)
+        → get_or k.wants i Free ≡ want_of (get_or (set s.threads t x) i ended)
     want i h (yes e) =
         rw (kw, e, get_or-set_same s.threads t x ended within)
-        (get_or-set_same m.wants t (want_of x) 0
+        (get_or-set_same m.wants t (want_of x) Free
         (let a = tr.wants_long in let b = tr.few in omega (arith, within, a, b)))
     want i h (no n) =
         rw (kw, get_or-set_other s.threads t i x ended n)
-        (get_or-set_other m.wants t i (want_of x) 0 n ∙ tr.wants.wanted i h)
+        (get_or-set_other m.wants t i (want_of x) Free n ∙ tr.wants.wanted i h)
 
     small_want : (i : ℕ) → Dec (i ≡ t) → SmallWant (get_or (set s.threads t x) i ended)
     small_want i (yes e) = rw (e, get_or-set_same s.threads t x ended within) small

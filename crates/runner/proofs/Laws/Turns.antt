@@ -21,10 +21,12 @@ use Rattle.steps.specs.declared.thread.Thread.{Thread as Record}
 use Rattle.steps.specs.Records.{lock_of, born_at, finished_as, left_to, bound_to, entered_as, called_as}
 use Rattle.steps.specs.Shown.{blank, kind_of}
 use Rattle.steps.specs.declared.machine.Machine.{Machine}
-use Rattle.steps.specs.declared.Ticked.{Ticked}
-use Rattle.steps.specs.Machines.{held_elsewhere, taken_by, given_back, made_one, wants_as, counted_as, full_at, settled_as}
+use Rattle.steps.specs.Machines.{is_born, held_elsewhere, taken_by, given_back, made_one, wants_as, counted_as, full_at, settled_as}
 use Rattle.steps.specs.Steps.{top_of, close_as, pair, beyond_as, idle_as, done_as, new_as, lock_as, choice_as, side_of, call_as}
 use Rattle.steps.specs.Steps.{item_by, item_as, step_as}
+use Rattle.steps.specs.declared.machine.Stage.TheVariants.{Turn}
+use Rattle.steps.specs.Steps.{Ticked}
+use Rattle.steps.specs.declared.machine.Want.TheVariants.{Gone}
 use Rattle.links.specs.Lies.{Section}
 use Rattle.runner.specs.Ticks.{Sized, looked, tick_as, records_after, machine_after}
 use Rattle.links.specs.Lies.{byte_at, link_at, closer, Lies}
@@ -35,7 +37,7 @@ use Rattle.runner.proofs.Laws.Items.{same_lock, follows_new, follows_lock, follo
 use Rattle.runner.proofs.Laws.Items.{follows_close}
 use Rattle.runner.proofs.Laws.Outlooks.{occurs_in, held_is}
 use Rattle.runner.proofs.Laws.Calls.{follows_call}
-use Rattle.runner.proofs.Laws.States.{with_thread, written_as, held_same, held_taken, held_given, tracks_step}
+use Rattle.runner.proofs.Laws.States.{not_both, with_thread, written_as, held_same, held_taken, held_given, tracks_step}
 use Rattle.runner.proofs.Laws.Settles.{Next, Due, drop_step, run_turn, run_beyond, settles}
 use Rattle.runner.proofs.Laws.Ticking.{On, tick_idle, tick_beyond, tick_done}
 
@@ -43,7 +45,7 @@ use Rattle.runner.proofs.Laws.Ticking.{On, tick_idle, tick_beyond, tick_done}
 pub record Taking (P : Program) (z : Section) (R : Result) (s : State) (ts : List Record) (m : Machine)
     (x : Thread) : Type 0 where
   pub tracks : Tracks z s ts m
-  pub stage : m.stage ≡ 1
+  pub stage : m.stage ≡ Turn
   pub next : Next P z R s m
   pub due : Due z s m
   pub is : thread s m.pick ≡ x
@@ -109,17 +111,17 @@ module _ (P : Program) (z : Section) (R : Result) (s : State) (ts : List Record)
   -- the record that is looked at follows the thread
   pub followed : (x : Thread) → Taking P z R s ts m x → Follows z x (looked ts m)
   followed x k =
-      let w = written_as ts m (λ q. let e = k.stage in omega (arith, q, e)) in
+      let w = written_as ts m (ap is_born k.stage) in
       subst (λ (y : Thread). Follows z y (looked ts m)) k.is
       (subst (λ (us : List Record). Follows z (thread s m.pick) (get_or us m.pick blank)) w
       (k.tracks.follows m.pick k.due.started
-      (k.tracks.sized m.pick k.due.started (λ q. let e = k.stage in absurd (omega (arith, q, e))))))
+      (k.tracks.sized m.pick k.due.started (λ q. absurd (not_both m.stage (ap is_born k.stage) q)))))
 
   pub size_of : (x : Thread) → Taking P z R s ts m x → Sized (looked ts m)
   size_of x k =
-      let w = written_as ts m (λ q. let e = k.stage in omega (arith, q, e)) in
+      let w = written_as ts m (ap is_born k.stage) in
       subst (λ (us : List Record). Sized (get_or us m.pick blank)) w
-      (k.tracks.sized m.pick k.due.started (λ q. let e = k.stage in absurd (omega (arith, q, e))))
+      (k.tracks.sized m.pick k.due.started (λ q. absurd (not_both m.stage (ap is_born k.stage) q)))
 
   -- the tick takes the item at the record's offset
   pub tick_item :
@@ -129,9 +131,9 @@ module _ (P : Program) (z : Section) (R : Result) (s : State) (ts : List Record)
   tick_item x k runs c e =
       let t = looked ts m in
       let i = item_as z.counts z.bytes z.heads z.links z.schedule t m in
-      second_of (eqb m.stage 0) (pair (born_at t m.head m.born) (settled_as m z.schedule))
+      second_of (is_born m.stage) (pair (born_at t m.head m.born) (settled_as m z.schedule))
       (cond t.ended (idle_as z.schedule t m) i)
-      (ne_eqb m.stage 0 (λ q. let h = k.stage in omega (arith, q, h)))
+      (ap is_born k.stage)
       ∙ second_of t.ended (idle_as z.schedule t m) i runs
       ∙ ap (item_by z.counts z.bytes z.heads z.links z.schedule t m) e
 
@@ -142,9 +144,9 @@ module _ (P : Program) (z : Section) (R : Result) (s : State) (ts : List Record)
       tick_idle P z R s ts m k.tracks k.stage (stepped ended k refl)
       (let t = looked ts m in
       let i = item_as z.counts z.bytes z.heads z.links z.schedule t m in
-      second_of (eqb m.stage 0) (pair (born_at t m.head m.born) (settled_as m z.schedule))
+      second_of (is_born m.stage) (pair (born_at t m.head m.born) (settled_as m z.schedule))
       (cond t.ended (idle_as z.schedule t m) i)
-      (ne_eqb m.stage 0 (λ q. let h = k.stage in omega (arith, q, h)))
+      (ap is_born k.stage)
       ∙ first_of t.ended (idle_as z.schedule t m) i (followed ended k))
 
   -- NEW
@@ -175,7 +177,7 @@ module _ (P : Program) (z : Section) (R : Result) (s : State) (ts : List Record)
                 long h refl refl refl refl refl (omega (arith, mm)) refl
                 (held_same s m m.pick (suc s.made) (at c (bind x s.made e) fs) k.due.started
                 (λ l. ap (λ (y : Thread). occurs l (holds y)) (sym k.is)) k.tracks.held)
-                k.tracks.owners k.tracks.counts
+                k.tracks.locks_long
                 (stepped (at (new x c) e fs) k (lt-leb most_locks s.made h))
                 (item ∙ rw (mm, lt-leb most_locks s.made h) refl),
           )
@@ -303,10 +305,9 @@ module _ (P : Program) (z : Section) (R : Result) (s : State) (ts : List Record)
                 (entered_sized (looked ts m) (e x) ((looked ts m).at + 2) sz) k.tracks.few_locks
                 refl refl refl refl refl k.tracks.made refl
                 (held_taken s m m.pick s.made (e x) (at c e (frame (held (e x)) e d ∷ fs)) k.due.started small
-                k.tracks.owners k.tracks.counts alone
+                k.tracks.locks_long alone
                 (λ l. rw k.is refl) k.tracks.held)
-                (length-set m.owner (e x) m.pick ∙ k.tracks.owners)
-                (length-set m.count (e x) _ ∙ k.tracks.counts)
+                (length-set m.locks (e x) _ ∙ k.tracks.locks_long)
                 (on g)
                 (free ∙ second_of (full_at m.pick (looked ts m).depth) (beyond_as (looked ts m) m) _ (full ∙ g)),
           )
@@ -325,7 +326,7 @@ module _ (P : Program) (z : Section) (R : Result) (s : State) (ts : List Record)
         refl refl refl refl refl k.tracks.made refl
         (held_same s m m.pick s.made (at c' e' gs) k.due.started
         (λ l. same l ∙ ap (λ (y : Thread). occurs l (holds y)) (sym k.is)) k.tracks.held)
-        k.tracks.owners k.tracks.counts on is,
+        k.tracks.locks_long on is,
   )
 
   -- CHOICE
@@ -475,20 +476,19 @@ module _ (P : Program) (z : Section) (R : Result) (s : State) (ts : List Record)
   tick_end e k =
       let t = looked ts m in
       let u = finished_as t in
-      let n = wants_as (counted_as m) m.pick (most_locks + 1) in
+      let n = wants_as (counted_as m) m.pick Gone in
       let s' = with_thread s m.pick ended s.made in
-      let st = k.stage in
-      let on : m.stage ≡ 0 → ⊥ = λ q. omega (arith, q, st) in
+      let on : is_born m.stage ≡ false = ap is_born k.stage in
       let sz = size_of P z R s ts m (at end e []) k in
       let tk = tracks_step z s ts m n m.pick s.made ended u k.tracks on on k.due.started refl
       (record { kinds = sz.kinds; goes = sz.goes; names = sz.names }) tt k.tracks.few_locks refl refl
       k.tracks.made refl
       (held_same s m m.pick s.made ended k.due.started
       (λ l. ap (λ (y : Thread). occurs l (holds y)) (sym k.is)) k.tracks.held)
-      k.tracks.owners k.tracks.counts in
+      k.tracks.locks_long in
       let h : m.read + 1 ≡ suc m.read = omega arith in
       let q =
-      settles P z R s' (set ts m.pick u) n tk (λ i g. tk.sized i g (λ q. absurd (on q)))
+      settles P z R s' (set ts m.pick u) n tk (λ i g. tk.sized i g (λ q. absurd (not_both m.stage on q)))
       (rw h (stepped P z R s ts m (at end e []) k refl)) in (
         s',
         subst (λ (r : Ticked). On P z R s' (set ts m.pick r.thread) r.machine) (sym item)
@@ -500,11 +500,11 @@ module _ (P : Program) (z : Section) (R : Result) (s : State) (ts : List Record)
       f = followed P z R s ts m (at end e []) k
 
       item : tick_as z (looked ts m) m
-          ≡ pair (finished_as (looked ts m)) (settled_as (wants_as (counted_as m) m.pick (most_locks + 1)) z.schedule)
+          ≡ pair (finished_as (looked ts m)) (settled_as (wants_as (counted_as m) m.pick Gone) z.schedule)
       item =
           tick_item P z R s ts m (at end e []) k f.runs (code END) (f.stand.2.0.1 ∙ ap closer f.stand.3)
           ∙ first_of (eqb (looked ts m).depth 0)
-          (pair (finished_as (looked ts m)) (settled_as (wants_as (counted_as m) m.pick (most_locks + 1)) z.schedule))
+          (pair (finished_as (looked ts m)) (settled_as (wants_as (counted_as m) m.pick Gone) z.schedule))
           (close_as z.bytes z.schedule (looked ts m) m) (eq-eqb (looked ts m).depth 0 f.deep)
 
   -- END or OTHER of what a frame opened
@@ -531,7 +531,7 @@ module _ (P : Program) (z : Section) (R : Result) (s : State) (ts : List Record)
       closes o k f i =
           tick_item P z R s ts m (at end e (frame o g d ∷ fs)) k f.runs (code END) (f.stand.2.0.1 ∙ ap closer i)
           ∙ second_of (eqb (looked ts m).depth 0)
-          (pair (finished_as (looked ts m)) (settled_as (wants_as (counted_as m) m.pick (most_locks + 1)) z.schedule))
+          (pair (finished_as (looked ts m)) (settled_as (wants_as (counted_as m) m.pick Gone) z.schedule))
           (close_as z.bytes z.schedule (looked ts m) m)
           (ne_eqb (looked ts m).depth 0 (λ q. let h = f.deep in omega (arith, q, h)))
 
@@ -588,14 +588,14 @@ module _ (P : Program) (z : Section) (R : Result) (s : State) (ts : List Record)
           absurd (let w : true ≡ false = sym i ∙ f.stand.3.0 in let y : ◌≡◌ {A = ℕ} 0 1 = cc in omega arith)
       by (held l) k f false i =
           let small : l < most_locks = f.all_small.0 in
-          let given = held_given s m m.pick s.made l (at d g fs) k.due.started small k.tracks.counts
+          let given = held_given s m m.pick s.made l (at d g fs) k.due.started small k.tracks.locks_long
           (λ j. rw k.is refl) k.tracks.held in (
             with_thread s m.pick (at d g fs) s.made,
             tick_done P z R s ts m (given_back m l) d g fs (left_to (looked ts m) ((looked ts m).at + 1)) s.made
                 k.tracks k.stage k.due.started (follows_close z (held l) d e g fs (looked ts m) f)
                 (left_sized ((looked ts m).at + 1)) k.tracks.few_locks refl refl refl refl refl
                 k.tracks.made refl given.0
-                k.tracks.owners (length-set m.count l _ ∙ k.tracks.counts)
+                (length-set m.locks l _ ∙ k.tracks.locks_long)
                 (stepped P z R s ts m (at end e (frame (held l) g d ∷ fs)) k refl)
                 (closes (held l) k f i
                 ∙ second_of (eqb (top_of (looked ts m)) (most_locks + 1)) _ _

@@ -6,9 +6,8 @@ use Rattle.std.proofs.lemmas.List.{take-replicate, drop-replicate, length-replic
 use Rattle.schedule.specs.Limits.{most_threads}
 use Rattle.steps.specs.declared.thread.Thread.{Thread as Record}
 use Rattle.table.specs.Check.{Outcome}
-use Rattle.runner.specs.Answer.{Runs}
+use Rattle.runner.specs.Answer.{Ran, Runs}
 use Rattle.runner.specs.Desk.{fresh, lent_of, RunsFresh}
-use Rattle.runner.specs.declared.Ran.{Ran}
 use Rattle.runner.proofs.run_fresh.Goals as goal
 
 -- what is said of a desk, where the first k of its records were lent and the run left them as us
@@ -38,6 +37,6 @@ ran_fresh o bs n k x us r is lent long runs =
 
 pub returns : goal.returns
 returns c =
-    ran_fresh _ c.args.schedule.now c.args.n c.lent_of-k.result c.blank-records.result c.run_schedule-ran.new.records
-    c.run_schedule-ran.result c.blank-records.ensures c.lent_of-k.ensures c.run_schedule-ran.auto.records
+    ran_fresh _ c.args.schedule.now c.args.n c.min-lent.result c.blank-records.result c.run_schedule-ran.new.records
+    c.run_schedule-ran.result c.blank-records.ensures c.min-lent.ensures c.run_schedule-ran.auto.records
     c.run_schedule-ran.ensures

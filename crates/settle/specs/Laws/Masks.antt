@@ -13,7 +13,7 @@ use Rattle.grid.specs.Rows.{Has, Bits}
 use Rattle.grid.proofs.Laws.Masks.{has_zero, has_below}
 use Rattle.settle.specs.Due.{Highest}
 
-next_power : (r : ℕ) → 2 ^ (r + 1) ≡ 2 ^ r + 2 ^ r
+pub next_power : (r : ℕ) → 2 ^ (r + 1) ≡ 2 ^ r + 2 ^ r
 next_power r = let e : r + 1 ≡ suc r = omega arith in ap (λ (v : ℕ). 2 ^ v) e ∙ double r
 
 -- a mask with one bit more, above its own

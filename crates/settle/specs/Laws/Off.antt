@@ -21,7 +21,7 @@ module _ (n left r : ℕ) (few : n ≤ 64) (below : left < 2 ^ n) (bit : Has lef
   abbrev pub rest : ℕ
   rest = left - (1 * 2 ^ r) % 18446744073709551616
 
-  rest_is : rest ≡ left - 2 ^ r
+  pub rest_is : rest ≡ left - 2 ^ r
   rest_is = let i = inside in ap (λ (v : ℕ). left - v) (shift_one r (omega arith))
 
   pub rest_bits : Bits rest (λ j. (j ≢ r) × Has left j)

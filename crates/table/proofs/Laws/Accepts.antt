@@ -1,5 +1,5 @@
 -- What the check promises, in one place: the theorems that crates above cite.
-use Rattle.std.specs.Prelude.{◌≡◌, refl, ◌↔◌, List, ℕ, ◌+◌, ◌*◌, ◌≤◌, ◌<◌, length, get_or}
+use Rattle.std.specs.Prelude.{◌≡◌, refl, ◌↔◌, List, ℕ, ◌+◌, ◌*◌, ◌≤◌, ◌<◌, length, get_or, Ok, Err}
 use Rattle.std.proofs.Common.{sym, ap, ◌∙◌, arith}
 use Rattle.table.specs.Constants.{most_routines, most_bytes}
 use Rattle.table.specs.Program.{Program, program_items}
@@ -7,12 +7,15 @@ use Rattle.table.specs.WellFormed.{WellFormed}
 use Rattle.table.specs.Encoding.{encode_table, WithinLimits}
 use Rattle.table.specs.Check.{Outcome, refused, accepted, check_table}
 use Rattle.table.specs.Answer.{checked_of, check_number}
-use Rattle.table.specs.declared.Checked.TheVariants.{Accepted, Refused}
+use Rattle.table.specs.Refusal.{refusal_number, refusal_of}
+use Rattle.table.specs.declared.Accepted.{Accepted}
+use Rattle.table.specs.declared.refusal.Refusal.{Refusal}
 use Rattle.table.proofs.Laws.Sound.{sound}
 use Rattle.table.proofs.Laws.Complete.{complete}
 use Rattle.table.proofs.Laws.Formed.{well_formed}
 use Rattle.table.proofs.Laws.Items.{items_bodies}
 use Rattle.table.proofs.Laws.Refusals.{refusals}
+use Rattle.table.proofs.Laws.Numbers.{number_of_refusal}
 
 -- the list holds bytes
 abbrev pub Bytes : List ℕ → Type 0
@@ -43,18 +46,34 @@ accepted_few s P byte e =
     (h.few_routines, omega arith)
 
 -- what `check` answers tells what the check came to: how many routines and items the program has, or the refusal
-pub accepted_of : (x : Outcome) (routines items : ℕ) → Accepted routines items ≡ checked_of x
-    → (P : Program) × (x ≡ accepted P) × (routines ≡ length P) × (items ≡ program_items P)
-accepted_of (accepted P) routines items e = (P, refl, cc, cc)
-accepted_of (refused y) routines items e = absurd (let z : ◌≡◌ {A = ℕ} 0 1 = cc in omega arith)
+pub accepted_of : (x : Outcome) (a : Accepted) → Ok a ≡ checked_of x
+    → (P : Program) × (x ≡ accepted P) × (a.routines ≡ length P) × (a.items ≡ program_items P)
+accepted_of (accepted P) a e =
+    let q : a ≡ record { routines = length P; items = program_items P } = cc in
+    (P, refl, ap (λ (v : Accepted). v.routines) q, ap (λ (v : Accepted). v.items) q)
+accepted_of (refused y) a e = cc
 
-pub refused_of : (x : Outcome) (y : ℕ) → Refused y ≡ checked_of x → x ≡ refused y
-refused_of (accepted P) y e = absurd (let z : ◌≡◌ {A = ℕ} 0 1 = cc in omega arith)
-refused_of (refused z) y e = cc
+pub refused_of : (x : Outcome) (r : Refusal) → Err r ≡ checked_of x → (e : ℕ) × (x ≡ refused e) × (r ≡ refusal_of e)
+refused_of (accepted P) r e = cc
+refused_of (refused z) r e = (z, refl, cc)
+
+-- the refusal that `check` answers has the number that the check came to
+pub refused_as : (s : List ℕ) (r : Refusal) → Err r ≡ checked_of (check_table s) → check_table s ≡ refused (refusal_number r)
+refused_as s r q =
+    let o = refused_of (check_table s) r q in
+    let l = refusals s o.0 o.1 in
+    let n : refusal_number r ≡ o.0 = ap refusal_number o.2 ∙ number_of_refusal o.0 l.0 (omega (arith, l.1)) in
+    o.1 ∙ ap refused (sym n)
 
 -- the launcher's number of an accepted table
-pub accepted_number : (routines items : ℕ) → check_number (Accepted routines items) ≡ 65536 * routines + items
-accepted_number routines items = refl
+pub accepted_number : (a : Accepted) → check_number (Ok a) ≡ 65536 * a.routines + a.items
+accepted_number a = refl
+
+-- the launcher's number of a refused table is the number of its refusal
+pub refused_number : (s : List ℕ) (e : ℕ) → check_table s ≡ refused e → check_number (checked_of (check_table s)) ≡ e
+refused_number s e h =
+    let l = refusals s e h in
+    ap (λ (o : Outcome). check_number (checked_of o)) h ∙ number_of_refusal e l.0 (omega arith)
 
 -- the launcher's number tells what `check` answers
 pub check_number_tells : (s t : List ℕ) → Bytes s → Bytes t
@@ -66,20 +85,27 @@ check_number_tells s t byte byte' = go (check_table s) (check_table t) refl refl
         → (0 < length P) × (program_items P ≤ most_bytes)
     many u P b h = ((accepted_well_formed u P b h).some_routine, (accepted_few u P b h).1)
 
+    number : (u : List ℕ) (e : ℕ) → check_table u ≡ refused e → (refusal_number (refusal_of e) ≡ e) × (e ≤ 14)
+    number u e h = let l = refusals u e h in (number_of_refusal e l.0 (omega arith), l.1)
+
     go : (x y : Outcome) → check_table s ≡ x → check_table t ≡ y → check_number (checked_of x) ≡ check_number (checked_of y)
         → checked_of x ≡ checked_of y
-    go (refused d) (refused e) h g q = ap Refused q
+    go (refused d) (refused e) h g q =
+        let m = number s d h in
+        let n = number t e g in
+        let same : d ≡ e = sym m.0 ∙ q ∙ n.0 in
+        ap (λ (v : ℕ). checked_of (refused v)) same
     go (refused d) (accepted Q) h g q =
         let l = many t Q byte' g in
-        let m = (refusals s d h).1 in
+        let m = number s d h in
         absurd (omega arith)
     go (accepted P) (refused e) h g q =
         let l = many s P byte h in
-        let m = (refusals t e g).1 in
+        let m = number t e g in
         absurd (omega arith)
     go (accepted P) (accepted Q) h g q =
         let l = (many s P byte h).1 in
         let m = (many t Q byte' g).1 in
         let r : length P ≡ length Q = omega arith in
         let i : program_items P ≡ program_items Q = omega arith in
-        λ k. Accepted (r k) (i k)
+        rw (r, i)

@@ -1,7 +1,8 @@
 -- The sections of a table that hold a program; those of an accepted table do, as code takes them.
 use Rattle.table.specs.Laws.Sections.{Holds, Held, AcceptedAs}
-use Rattle.std.specs.Prelude.{◌≡◌, List, ◌++◌, ℕ, suc, ◌+◌, ◌-◌, ◌≤◌, ◌<◌, length, get_or, take, drop}
-use Rattle.std.proofs.Common.{sym, ap, ◌∙◌, arith, length-append, take_at, take_all}
+use Rattle.table.specs.Laws.Splits.{SectionsOf}
+use Rattle.std.specs.Prelude.{◌≡◌, List, ◌++◌, ℕ, suc, ◌+◌, ◌-◌, ◌≤◌, ◌<◌, length, get_or, take, drop, Ok}
+use Rattle.std.proofs.Common.{Fits, w8, sym, ap, ◌∙◌, arith, length-append, length-drop, take_at, take_all}
 use Rattle.std.proofs.Math.Decide.{dec_lt}
 use Rattle.std.proofs.Math.ListN.{get_or-eq_default}
 use Rattle.std.proofs.Math.Seq.{drop-append-add}
@@ -11,7 +12,7 @@ use Rattle.table.specs.Encoding.{encode_table, encode_bodies, counts, two_bytes}
 use Rattle.table.specs.Check.{accepted, check_table}
 use Rattle.table.proofs.Laws.Sound.{sound, counts_length, counts_params}
 use Rattle.table.specs.Answer.{checked_of}
-use Rattle.table.specs.declared.Checked.TheVariants.{Accepted}
+use Rattle.table.specs.declared.Accepted.{Accepted}
 use Rattle.table.proofs.Laws.Accepts.{Bytes, accepted_few, accepted_of}
 
 module _ (P : Program) (ks s : List ℕ) (h : Holds P ks s) where
@@ -83,10 +84,11 @@ module _ (table : List ℕ) (bytes : Bytes table) (n : ℕ) (P : Program) (e : c
     limits = (sound table P bytes e).1;
   }
 
-pub accepted_as : (table : List ℕ) (n items : ℕ) → Bytes table → Accepted n items ≡ checked_of (check_table table)
-    → AcceptedAs table n
-accepted_as table n items bytes e =
-    let o = accepted_of (check_table table) n items e in
+pub accepted_as : (table : List ℕ) (a : Accepted) → Bytes table → Ok a ≡ checked_of (check_table table)
+    → AcceptedAs table a.routines
+accepted_as table a bytes e =
+    let n = a.routines in
+    let o = accepted_of (check_table table) a e in
     record {
       program = o.0;
       accepts = o.1;
@@ -96,3 +98,21 @@ accepted_as table n items bytes e =
       first = first_byte table bytes n o.0 o.1 o.2;
       holds = sections_hold table bytes n o.0 o.1 o.2;
     }
+
+-- the counts of an accepted table are there
+pub there_of : (table : List ℕ) (a : Accepted) → ((i : ℕ) → Fits w8 (get_or table i 0))
+    → Ok a ≡ checked_of (check_table table) → AcceptedAs table a.routines
+there_of table a fit e = accepted_as table a (λ i. omega (arith, fit i)) e
+
+-- the parts of an accepted table, as code takes them
+pub sections_of : (table : List ℕ) (n : ℕ) (h : AcceptedAs table n)
+    → SectionsOf h.program table (take (n + 1 - 1) (drop 1 table)) (take (length table - (n + 3)) (drop (n + 3) table))
+sections_of table n h = record {
+  accepts = h.accepts;
+  first = h.first ∙ h.size;
+  counts_are = let e : n + 1 - 1 ≡ length h.program = omega (arith, h.size) in ap (λ (v : ℕ). take v (drop 1 table)) e;
+  bodies_are =
+      take_all (length table - (n + 3)) (drop (n + 3) table) (omega (arith, length-drop (n + 3) table))
+      ∙ ap (λ (v : ℕ). drop (v + 3) table) h.size;
+  holds = h.holds;
+}

@@ -1,6 +1,6 @@
 -- What the answer done means: the tables differ in the routine's body at most, the model was well formed, and it is up to
 -- date.
-use Rattle.std.specs.Prelude.{◌≡◌, List, ℕ}
+use Rattle.std.specs.Prelude.{◌≡◌, List, ℕ, Ok}
 use Rattle.std.proofs.Math.Decide.{ℕ_discrete, dec_le}
 use Rattle.std.proofs.Common.{arith}
 use Rattle.table.specs.Program.{Program}
@@ -9,7 +9,6 @@ use Rattle.rows.specs.Bytes.{cell_byte, last_byte}
 use Rattle.rounds.specs.OneBody.{OnlyBody}
 use Rattle.rounds.proofs.Laws.OneBody.{only_body?}
 use Rattle.update.specs.Answer.{Formed, UpToDateFrom, Compared}
-use Rattle.update.specs.declared.Updated.TheVariants.{Done}
 use Rattle.update.proofs.Laws.Unique.{stable}
 
 -- a model is well formed where it cannot fail to be
@@ -21,7 +20,7 @@ formed_stable P model n = record {
 }
 
 pub done_means : (P Q : Program) → WithinLimits P → WithinLimits Q → (r : ℕ) (before after : List ℕ)
-    → Compared P Q r before after Done → OnlyBody P Q r × Formed P before × UpToDateFrom Q r before after
+    → Compared P Q r before after (Ok tt) → OnlyBody P Q r × Formed P before × UpToDateFrom Q r before after
 done_means P Q wp wq r before after c = go (only_body? P Q wp wq r)
   where
     go : Dec (OnlyBody P Q r) → OnlyBody P Q r × Formed P before × UpToDateFrom Q r before after

@@ -1,7 +1,7 @@
 -- The contract leaves nothing free: two answers to one input, and the two buffers left, are equal. So are the launcher's
 -- numbers, and a number tells its answer. Whatever is answered, only rows of the routine and of those that reach it
 -- change.
-use Rattle.std.specs.Prelude.{◌≡◌, refl, List, ℕ, ◌+◌, ◌*◌, ◌/◌, ◌%◌, ◌<◌, length, get_or}
+use Rattle.std.specs.Prelude.{◌≡◌, refl, List, ℕ, ◌+◌, ◌*◌, ◌/◌, ◌%◌, ◌<◌, length, get_or, Ok, Err}
 use Rattle.std.proofs.Common.{sym, ap, ◌∙◌, div-add-mod', mod-lt, arith, ext_get_or}
 use Rattle.std.proofs.Math.Decide.{ℕ_discrete, dec_lt}
 use Rattle.table.specs.Constants.{row_bytes}
@@ -16,9 +16,10 @@ use Rattle.rounds.proofs.Laws.OneBody.{same?}
 use Rattle.rows.specs.Bytes.{cell_byte, last_byte}
 use Rattle.analysis.proofs.Laws.Unique.{flag_unique, cell_unique}
 use Rattle.update.specs.Answer.{Formed, ModelFrom, UpToDateFrom, Compared, Replaced}
-use Rattle.update.specs.Answer.{Fits, update_number, ReplacedAs}
-use Rattle.update.specs.declared.Updated.{Updated}
-use Rattle.update.specs.declared.Updated.TheVariants.{Done, Refused}
+use Rattle.update.specs.Answer.{Updated, Fits, update_number, ReplacedAs}
+use Rattle.table.specs.Refusal.{refusal_number, refusal_of}
+use Rattle.table.specs.declared.refusal.Refusal.{Refusal}
+use Rattle.table.proofs.Laws.Numbers.{refusal_of_number}
 
 -- what is left of one buffer is one buffer
 pub updated_unique : (P : Program) (r : ℕ) (before after after' : List ℕ)
@@ -58,15 +59,19 @@ pub stable : {A : Type 0} → Dec A → ¬ ¬ A → A
 stable (yes a) n = a
 stable (no m) n = absurd (n m)
 
+-- a refusal's number tells it
+told : (x y : Refusal) → refusal_number x ≡ refusal_number y → x ≡ y
+told x y e = sym (refusal_of_number x) ∙ ap refusal_of e ∙ refusal_of_number y
+
 answer? : (a b : Updated) → Dec (a ≡ b)
-answer? Done Done = yes refl
-answer? Done (Refused y) = no (λ e. let z : ◌≡◌ {A = ℕ} 0 1 = cc in omega arith)
-answer? (Refused x) Done = no (λ e. let z : ◌≡◌ {A = ℕ} 0 1 = cc in omega arith)
-answer? (Refused x) (Refused y) = go (ℕ_discrete x y)
+answer? (Ok x) (Ok y) = yes refl
+answer? (Ok x) (Err y) = no (λ e. let z : ◌≡◌ {A = ℕ} 0 1 = cc in omega arith)
+answer? (Err x) (Ok y) = no (λ e. let z : ◌≡◌ {A = ℕ} 0 1 = cc in omega arith)
+answer? (Err x) (Err y) = go (ℕ_discrete (refusal_number x) (refusal_number y))
   where
-    go : Dec (x ≡ y) → Dec (Refused x ≡ Refused y)
-    go (yes e) = yes (ap Refused e)
-    go (no n) = no (λ e. n cc)
+    go : Dec (refusal_number x ≡ refusal_number y) → Dec (◌≡◌ {A = Updated} (Err x) (Err y))
+    go (yes e) = yes (ap Err (told x y e))
+    go (no n) = no (λ e. n (ap refusal_number (let q : x ≡ y = cc in q)))
 
 -- whatever can be decided holds of what is answered where it holds of each answer
 pub by_answer : (P Q : Program) (r : ℕ) (before : List ℕ) {A : Type 0} → Dec A → (¬ OnlyBody P Q r → A)
@@ -86,10 +91,10 @@ compared_unique P Q r before after after' answer answer' p q =
     by_answer P Q r before (both? (same? after after') (answer? answer answer')) other bad done
   where
     other : ¬ OnlyBody P Q r → (after ≡ after') × (answer ≡ answer')
-    other n = let x = p.refused_other n in let y = q.refused_other n in (cc (x.1, y.1), cc (x.0, y.0))
+    other n = let x = p.refused_other n in let y = q.refused_other n in (cc (x.2, y.2), cc (x.0, y.0))
 
     bad : OnlyBody P Q r → ¬ Formed P before → (after ≡ after') × (answer ≡ answer')
-    bad o n = let x = p.refused_model o n in let y = q.refused_model o n in (cc (x.1, y.1), cc (x.0, y.0))
+    bad o n = let x = p.refused_model o n in let y = q.refused_model o n in (cc (x.2, y.2), cc (x.0, y.0))
 
     done : OnlyBody P Q r → Formed P before → (after ≡ after') × (answer ≡ answer')
     done o f =
@@ -108,7 +113,7 @@ replaced_unique old new r before after after' answer answer' p q = by_old (check
     sized P Q e f (yes lt) =
         let x = p.refused_buffer P Q e f lt in
         let y = q.refused_buffer P Q e f lt in
-        (cc (x.1, y.1), cc (x.0, y.0))
+        (cc (x.2, y.2), cc (x.0, y.0))
     sized P Q e f (no ge) =
         compared_unique P Q r before after after' answer answer' (p.compared P Q e f (omega arith))
         (q.compared P Q e f (omega arith))
@@ -118,14 +123,14 @@ replaced_unique old new r before after after' answer answer' p q = by_old (check
     by_new P e (refused n) f =
         let x = p.refused_new P n e f in
         let y = q.refused_new P n e f in
-        (cc (x.1, y.1), cc (x.0, y.0))
+        (cc (x.2, y.2), cc (x.0, y.0))
     by_new P e (accepted Q) f = sized P Q e f (dec_lt (length before) (row_bytes * length P))
 
     by_old : (o : Outcome) → check_table old ≡ o → (after ≡ after') × (answer ≡ answer')
     by_old (refused n) e =
         let x = p.refused_old n e in
         let y = q.refused_old n e in
-        (cc (x.1, y.1), cc (x.0, y.0))
+        (cc (x.2, y.2), cc (x.0, y.0))
     by_old (accepted P) e = by_new P e (check_table new) refl
 
 -- and so are the launcher's numbers
@@ -137,10 +142,10 @@ number_unique old new r before after after' n m p q =
 
 -- a launcher's number tells its answer
 pub number_tells : (a b : Updated) → Fits a → Fits b → update_number a ≡ update_number b → a ≡ b
-number_tells Done Done f g e = refl
-number_tells Done (Refused y) f g e = let l = g.0 in absurd (omega arith)
-number_tells (Refused x) Done f g e = let l = f.0 in absurd (omega arith)
-number_tells (Refused x) (Refused y) f g e = ap Refused e
+number_tells (Ok x) (Ok y) f g e = refl
+number_tells (Ok x) (Err y) f g e = let l = g.0 in absurd (omega arith)
+number_tells (Err x) (Ok y) f g e = let l = f.0 in absurd (omega arith)
+number_tells (Err x) (Err y) f g e = ap Err (told x y e)
 
 -- whatever is answered, rows of routines that do not reach r keep every byte
 pub others_stay : (P Q : Program) (r : ℕ) (before after : List ℕ) (answer : Updated)
@@ -148,8 +153,8 @@ pub others_stay : (P Q : Program) (r : ℕ) (before after : List ℕ) (answer : 
     → get_or after (row_bytes * q + i) 0 ≡ get_or before (row_bytes * q + i) 0
 others_stay P Q r before after answer c q i h n l =
     by_answer P Q r before (ℕ_discrete (get_or after (row_bytes * q + i) 0) (get_or before (row_bytes * q + i) 0))
-    (λ o. ap (λ (v : List ℕ). get_or v (row_bytes * q + i) 0) (c.refused_other o).1)
-    (λ o f. ap (λ (v : List ℕ). get_or v (row_bytes * q + i) 0) (c.refused_model o f).1)
+    (λ o. ap (λ (v : List ℕ). get_or v (row_bytes * q + i) 0) (c.refused_other o).2)
+    (λ o f. ap (λ (v : List ℕ). get_or v (row_bytes * q + i) 0) (c.refused_model o f).2)
     (λ o f. (c.done o f).1.others q i h n l)
 
 -- in the contract's words: whatever is answered, of the rows of the new table only those of r and of the routines that
@@ -164,9 +169,9 @@ only_touched old new r before after answer u Q f q i h n l = by (check_table old
 
     sized : (P : Program) → check_table old ≡ accepted P → Dec (length before < row_bytes * length P)
         → get_or after (row_bytes * q + i) 0 ≡ get_or before (row_bytes * q + i) 0
-    sized P e (yes lt) = stays (u.refused_buffer P Q e f lt).1
+    sized P e (yes lt) = stays (u.refused_buffer P Q e f lt).2
     sized P e (no ge) = others_stay P Q r before after answer (u.compared P Q e f (omega arith)) q i h n l
 
     by : (o : Outcome) → check_table old ≡ o → get_or after (row_bytes * q + i) 0 ≡ get_or before (row_bytes * q + i) 0
-    by (refused m) e = stays (u.refused_old m e).1
+    by (refused m) e = stays (u.refused_old m e).2
     by (accepted P) e = sized P e (dec_lt (length before) (row_bytes * length P))

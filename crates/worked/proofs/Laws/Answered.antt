@@ -1,16 +1,13 @@
 -- What the contract of the analysis comes to at a worked table: the verdict, the share and the rows of its entry.
-use Rattle.std.specs.Prelude.{◌≡◌, refl, List, [], ◌∷◌, ℕ, ◌+◌, ◌*◌, ◌≤◌, ◌<◌, length, get_or, take, replicate}
+use Rattle.std.specs.Prelude.{◌≡◌, refl, List, [], ◌∷◌, ℕ, ◌+◌, ◌*◌, ◌≤◌, ◌<◌, length, get_or, take, replicate, Ok}
 use Rattle.std.proofs.Common.{sym, ◌∙◌, arith, length-set, ext_get_or, get_or-take, length-take-le}
 use Rattle.std.proofs.lemmas.List.{length-replicate}
 use Rattle.table.specs.Program.{Program}
 use Rattle.table.specs.Check.{accepted, check_table}
 use Rattle.table.specs.WellFormed.{In}
 use Rattle.table.specs.Constants.{row_bytes, row_names}
-use Rattle.analysis.specs.Answer.{Says, Shares, Models, JudgedAs, Analysed}
-use Rattle.analysis.specs.declared.Share.{Share}
-use Rattle.analysis.specs.declared.Verdict.{Verdict}
-use Rattle.analysis.specs.declared.Answer.{Answer}
-use Rattle.analysis.specs.declared.Answer.TheVariants.{Judged}
+use Rattle.analysis.specs.Answer.{Answer, Says, Shares, Models, JudgedAs, Analysed}
+use Rattle.analysis.specs.declared.Judgement.{Judgement}
 use Rattle.analysis.proofs.Laws.Unique.{models_unique, verdict_unique, shares_unique}
 use Rattle.worked.specs.Cases.{CellByte, Case, with_cells, with_rings, rows_of, Holds, cases}
 use Rattle.worked.proofs.Laws.Proved.{every_case}
@@ -37,7 +34,7 @@ rows_long n c =
 -- the answer and the buffer of a worked table that has n routines
 pub record Answers (c : Case) (n : ℕ) (after : List ℕ) (answer : Answer) : Type 0 where
   pub rounds : ℕ
-  pub judged : answer ≡ Judged c.verdict c.share rounds
+  pub judged : answer ≡ Ok (record { verdict = c.verdict; share = c.share; rounds = rounds })
   pub rows : take (row_bytes * n) after ≡ rows_of n c
 
 -- where an entry holds, the contract gives its verdict, its share and its rows
@@ -47,12 +44,8 @@ answers :
     → Analysed c.table before after answer → Answers c (length P) after answer
 answers c h P e before after answer l p =
     record {
-      rounds = w.2;
-      judged = cc (
-        w.3,
-        verdict_unique P w.0 c.verdict w.4.says says,
-        shares_unique P w.1 c.share w.4.shares shares,
-      );
+      rounds = w.0.rounds;
+      judged = judged;
       rows =
           ext_get_or 0 (take (row_bytes * length P) after) (rows_of (length P) c) (long ∙ sym (rows_long (length P) c)) at;
     }
@@ -69,11 +62,17 @@ answers c h P e before after answer l p =
     models : Models P (rows_of (length P) c)
     models = rw same at h.models
 
-    w : (v : Verdict) × (s : Share) × (m : ℕ) × (answer ≡ Judged v s m) × JudgedAs P before after v s m
+    w : (j : Judgement) × (answer ≡ Ok j) × JudgedAs P before after j
     w = p.judged P e l
 
+    judged : answer ≡ Ok (record { verdict = c.verdict; share = c.share; rounds = w.0.rounds })
+    judged =
+        let v : w.0.verdict ≡ c.verdict = verdict_unique P w.0.verdict c.verdict w.2.says says in
+        let s : w.0.share ≡ c.share = shares_unique P w.0.share c.share w.2.shares shares in
+        w.1 ∙ rw (← v, ← s) refl
+
     long : length (take (row_bytes * length P) after) ≡ row_bytes * length P
-    long = length-take-le (row_bytes * length P) after (let k = w.4.same_length in omega arith)
+    long = length-take-le (row_bytes * length P) after (let k = w.2.same_length in omega arith)
 
     at :
         (i : ℕ) → i < length (take (row_bytes * length P) after)
@@ -81,7 +80,7 @@ answers c h P e before after answer l p =
     at i k =
         let k' : i < row_bytes * length P = rw long at k in
         get_or-take (row_bytes * length P) after i 0 k'
-        ∙ models_unique P after (rows_of (length P) c) w.4.model models i k'
+        ∙ models_unique P after (rows_of (length P) c) w.2.model models i k'
 
 -- every worked table, where the buffer is long enough, gets its verdict and its share, and leaves its rows in the buffer
 pub every_answer :

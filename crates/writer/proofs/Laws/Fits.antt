@@ -1,11 +1,11 @@
 -- A length that is answered is that of a table, and a refusal has a small number.
-use Rattle.std.specs.Prelude.{◌≡◌, ℕ, ◌≤◌}
+use Rattle.std.specs.Prelude.{◌≡◌, ℕ, ◌≤◌, Result, Ok, Err}
+use Rattle.table.specs.Refusal.{refusal_number}
+use Rattle.table.specs.declared.refusal.Refusal.{Refusal}
 use Rattle.writer.specs.Answer.{short_output, longest_table, Fits}
-use Rattle.writer.specs.declared.Written.{Written}
-use Rattle.writer.specs.declared.Written.TheVariants.{Length, Refused}
 
-pub small_length : (a : Written) (n : ℕ) → Fits a → a ≡ Length n → n ≤ longest_table
+pub small_length : (a : Result ℕ Refusal) (n : ℕ) → Fits a → a ≡ Ok n → n ≤ longest_table
 small_length a n f e = rw e at f
 
-pub small_refusal : (a : Written) (y : ℕ) → Fits a → a ≡ Refused y → y ≤ short_output
-small_refusal a y f e = let g : Fits (Refused y) = rw e at f in g.1
+pub small_refusal : (a : Result ℕ Refusal) (r : Refusal) → Fits a → a ≡ Err r → refusal_number r ≤ short_output
+small_refusal a r f e = let g : Fits (Err r) = rw e at f in g.1

@@ -1,6 +1,6 @@
 -- What the analysis says of a table and of its canonical table: a reached routine has the same row of bytes in both
 -- models, both are judged clear or neither is, and both have one share.
-use Rattle.std.specs.Prelude.{◌≡◌, refl, ◌↔◌, List, ℕ, ◌+◌, ◌*◌, ◌/◌, ◌%◌, ◌<◌, length, get_or}
+use Rattle.std.specs.Prelude.{◌≡◌, refl, ◌↔◌, List, ℕ, ◌+◌, ◌*◌, ◌/◌, ◌%◌, ◌<◌, length, get_or, Ok}
 use Rattle.std.proofs.Common.{div-add-mod', mod-lt, arith}
 use Rattle.std.proofs.Math.Decide.{dec_lt}
 use Rattle.table.specs.Constants.{row_names, row_cells, row_bytes}
@@ -18,10 +18,9 @@ use Rattle.analysis.specs.Answer.{Models, Says, JudgedAs, Analysed}
 use Rattle.analysis.proofs.Laws.Bytes.{cell_map, flag_map}
 use Rattle.analysis.proofs.Laws.Judged.{judged_as}
 use Rattle.analysis.proofs.Laws.Unique.{cell_unique, flag_unique, shares_unique}
-use Rattle.analysis.specs.declared.Share.{Share}
 use Rattle.analysis.specs.declared.Verdict.{Verdict}
 use Rattle.analysis.specs.declared.Verdict.TheVariants.{Clear as SaysClear, Ring as SaysRing}
-use Rattle.analysis.specs.declared.Answer.TheVariants.{Judged}
+use Rattle.analysis.specs.declared.Judgement.{Judgement}
 use Rattle.canon.specs.Canonical.{place, canonical, canonical_table}
 use Rattle.canon.proofs.Laws.Limits.{keeps}
 use Rattle.canon.proofs.Laws.Accepted.{canonical_accepted}
@@ -75,17 +74,16 @@ clear_says P (SaysRing ring) says = (
 
 -- the table holds P, and it and the canonical table of P are judged, each from a buffer of its own
 module _ (table : List ℕ) (P : Program) (bytes : Bytes table) (e : check_table table ≡ accepted P)
-    (before after before' after' : List ℕ) (v v' : Verdict) (s s' : Share) (m m' : ℕ)
-    (a : Analysed table before after (Judged v s m))
-    (a' : Analysed (canonical_table P) before' after' (Judged v' s' m')) where
+    (before after before' after' : List ℕ) (j j' : Judgement) (a : Analysed table before after (Ok j))
+    (a' : Analysed (canonical_table P) before' after' (Ok j')) where
   within : WithinLimits P
   within = (sound table P bytes e).1
 
-  first : JudgedAs P before after v s m
-  first = judged_as table before after v s m a P e
+  first : JudgedAs P before after j
+  first = judged_as table before after j a P e
 
-  second : JudgedAs (canonical P) before' after' v' s' m'
-  second = judged_as (canonical_table P) before' after' v' s' m' a' (canonical P) (canonical_accepted P within)
+  second : JudgedAs (canonical P) before' after' j'
+  second = judged_as (canonical_table P) before' after' j' a' (canonical P) (canonical_accepted P within)
 
   -- every byte of the row of a reached routine is that of the row of its new number
   pub row_bytes_kept : (r : ℕ) → Reached P r → (i : ℕ) → i < row_bytes
@@ -93,15 +91,16 @@ module _ (table : List ℕ) (P : Program) (bytes : Bytes table) (e : check_table
   row_bytes_kept = models_kept P within after after' first.model second.model
 
   -- the one is judged clear exactly when the other is
-  pub verdict_kept : (v ≡ SaysClear) ↔ (v' ≡ SaysClear)
+  pub verdict_kept : (j.verdict ≡ SaysClear) ↔ (j'.verdict ≡ SaysClear)
   verdict_kept =
-      let x = clear_says P v first.says in
-      let y = clear_says (canonical P) v' second.says in
+      let x = clear_says P j.verdict first.says in
+      let y = clear_says (canonical P) j'.verdict second.says in
       let c = clear_kept P within in
       (λ h. y.1 (c.0 (x.0 h)), λ h. x.1 (c.1 (y.0 h)))
 
   -- and both have one share
-  pub shares_kept : s ≡ s'
+  pub shares_kept : j.share ≡ j'.share
   shares_kept =
-      shares_unique (canonical P) s s'
+      let s = j.share in
+      shares_unique (canonical P) s j'.share
       (share_kept P within s.percent s.remainder s.reached first.shares) second.shares

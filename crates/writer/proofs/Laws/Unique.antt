@@ -1,17 +1,18 @@
 -- The contract leaves nothing free: two answers to one table from one buffer, and the two buffers left, are equal. So
 -- are the launcher's numbers, and a number tells its answer.
-use Rattle.std.specs.Prelude.{◌≡◌, refl, List, ℕ, ◌<◌, length}
+use Rattle.std.specs.Prelude.{◌≡◌, refl, List, ℕ, ◌<◌, length, Result, Ok, Err}
 use Rattle.std.proofs.Common.{sym, ap, ◌∙◌, arith}
 use Rattle.std.proofs.Math.Decide.{dec_lt}
 use Rattle.table.specs.Program.{Program}
 use Rattle.table.specs.Check.{Outcome, refused, accepted, check_table}
+use Rattle.table.specs.Refusal.{refusal_of}
+use Rattle.table.proofs.Laws.Numbers.{refusal_of_number}
 use Rattle.canon.specs.Canonical.{canonical_table}
 use Rattle.writer.specs.Answer.{WritesOf, Writes, Fits, written_number, WritesAs}
-use Rattle.writer.specs.declared.Written.{Written}
-use Rattle.writer.specs.declared.Written.TheVariants.{Length, Refused}
+use Rattle.table.specs.declared.refusal.Refusal.{Refusal}
 
 -- programs of one canonical table have one answer, and leave one buffer
-pub table_unique : (P Q : Program) (before after after' : List ℕ) (answer answer' : Written)
+pub table_unique : (P Q : Program) (before after after' : List ℕ) (answer answer' : Result ℕ Refusal)
     → canonical_table P ≡ canonical_table Q → WritesOf P before after answer → WritesOf Q before after' answer'
     → (after ≡ after') × (answer ≡ answer')
 table_unique P Q before after after' answer answer' e p q = by (dec_lt (length before) (length (canonical_table P)))
@@ -23,14 +24,14 @@ table_unique P Q before after after' answer answer' e p q = by (dec_lt (length b
     by (yes lt) =
         let x = p.short lt in
         let y = q.short (omega (arith, long)) in
-        (x.1 ∙ sym y.1, x.0 ∙ sym y.0)
+        (x.2 ∙ sym y.2, x.0 ∙ sym y.0)
     by (no ge) =
         let x = p.written (omega (arith, ge)) in
         let y = q.written (omega (arith, ge, long)) in
         (cc (e, x.1, y.1), cc (e, x.0, y.0))
 
 -- two answers to one table, from one buffer, are equal, and so are the buffers left
-pub writes_unique : (table before after after' : List ℕ) (answer answer' : Written)
+pub writes_unique : (table before after after' : List ℕ) (answer answer' : Result ℕ Refusal)
     → Writes table before after answer → Writes table before after' answer' → (after ≡ after') × (answer ≡ answer')
 writes_unique table before after after' answer answer' p q = by (check_table table) refl
   where
@@ -38,7 +39,7 @@ writes_unique table before after after' answer answer' p q = by (check_table tab
     by (refused n) e =
         let x = p.refused_table n e in
         let y = q.refused_table n e in
-        (x.1 ∙ sym y.1, x.0 ∙ sym y.0)
+        (x.2 ∙ sym y.2, x.0 ∙ sym y.0)
     by (accepted P) e =
         table_unique P P before after after' answer answer' refl (p.accepted_table P e) (q.accepted_table P e)
 
@@ -50,8 +51,8 @@ number_unique table before after after' n m p q =
     (same.0, p.1 ∙ ap written_number same.1 ∙ sym q.1)
 
 -- a launcher's number tells its answer
-pub number_tells : (a b : Written) → Fits a → Fits b → written_number a ≡ written_number b → a ≡ b
-number_tells (Length n) (Length m) f g e = ap Length (omega arith)
-number_tells (Length n) (Refused y) f g e = let l = g.1 in absurd (omega arith)
-number_tells (Refused x) (Length m) f g e = let l = f.1 in absurd (omega arith)
-number_tells (Refused x) (Refused y) f g e = ap Refused e
+pub number_tells : (a b : Result ℕ Refusal) → Fits a → Fits b → written_number a ≡ written_number b → a ≡ b
+number_tells (Ok n) (Ok m) f g e = ap Ok (omega arith)
+number_tells (Ok n) (Err y) f g e = let l = g.1 in absurd (omega arith)
+number_tells (Err x) (Ok m) f g e = let l = f.1 in absurd (omega arith)
+number_tells (Err x) (Err y) f g e = ap Err (sym (refusal_of_number x) ∙ ap refusal_of e ∙ refusal_of_number y)

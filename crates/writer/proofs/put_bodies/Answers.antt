@@ -1,49 +1,25 @@
 -- `put_bodies` meets its contract: after i turns the bodies of the first i routines are written.
-use mathlib.Core.Path.{refl}
-use Prim.Native.Nat.{◌<◌}
-use native.Mathlib.Omega.{arith}
-use lib.ListN.{length}
-use Rattle.writer.proofs.TableLaws.{start_here, count_here}
-use Rattle.writer.proofs.TableLaws.{body_ready, putting_on}
-use borrow.Author.Rules.{rules}
+use Rattle.std.proofs.Common.{refl, rules}
+use Rattle.writer.proofs.TableLaws.{start_here, count_here, body_ready, putting_on}
 use Rattle.writer.proofs.put_bodies.Goals as goal
 
 pub bounds-starts-r : goal.bounds-starts-r
 bounds-starts-r c =
-    let a = c.args in
-    let l = c.loop-i in
-    let h = start_here a.ks.now a.s.now a.starts.now a.places.now a.routines.now a.p
-    a.out.now
-    c.requires l.out l.i l.q l.invariant (omega arith) _ c.size-r.ensures.0 in
-    search rules
+    let h = start_here c.requires.0 c.met-routines.ensures c.loop-x-test.true c.from-r.ensures in search rules
 
 pub end_of-requires : goal.end_of-requires
-end_of-requires c =
-    let a = c.args in
-    let l = c.loop-i in
-    start_here a.ks.now a.s.now a.starts.now a.places.now a.routines.now a.p a.out.now
-    c.requires l.out l.i l.q l.invariant (omega arith) _ c.size-r.ensures.0
+end_of-requires c = start_here c.requires.0 c.met-routines.ensures c.loop-x-test.true c.from-r.ensures
 
-pub bounds-ks-r : goal.bounds-ks-r
-bounds-ks-r c =
-    let a = c.args in
-    let l = c.loop-i in
-    let h = count_here a.ks.now a.s.now a.starts.now a.places.now a.routines.now a.p
-    a.out.now
-    c.requires l.out l.i l.q l.invariant (omega arith) _ c.size-r.ensures.0 in
-    search rules
+pub bounds-t-r : goal.bounds-t-r
+bounds-t-r c =
+    let h = count_here c.requires.0 c.met-routines.ensures c.loop-x-test.true c.from-r.ensures in search rules
 
-pub put_body-next-requires : goal.put_body-next-requires
-put_body-next-requires c =
-    let a = c.args in
-    let l = c.loop-i in
-    body_ready a.ks.now a.s.now a.starts.now a.places.now a.routines.now a.p a.out.now
-    c.requires l.out l.i l.q l.invariant (omega arith) _ c.size-r.ensures.0 _ _ _ refl c.end_of.ensures refl
+pub put_body-requires : goal.put_body-requires
+put_body-requires c =
+    body_ready c.requires.0 c.met-routines.ensures c.loop-x-test.true c.from-r.ensures refl c.end_of.ensures refl
+    c.loop-x.invariant c.requires.1
 
-pub loop-i-preserved : goal.loop-i-preserved
-loop-i-preserved c =
-    let a = c.args in
-    let l = c.loop-i in
-    let inside : l.i < length a.routines.now = c.loop-i-test.true in
-    putting_on a.ks.now a.s.now a.starts.now a.places.now a.routines.now a.p a.out.now
-    c.requires l.out l.i l.q l.invariant inside _ c.size-r.ensures.0 _ _ _ refl c.end_of.ensures refl _ _ c.put_body-next.ensures
+pub loop-x-preserved : goal.loop-x-preserved
+loop-x-preserved c =
+    putting_on c.requires.0 c.met-routines.ensures c.loop-x-test.true c.from-r.ensures refl c.end_of.ensures refl
+    c.loop-x.invariant c.requires.1 c.put_body.ensures

@@ -1,19 +1,17 @@
 -- `put_counts` meets its contract: after i turns the first i counts are written.
-use native.Mathlib.Omega.{arith}
+use Rattle.std.proofs.Common.{arith, get_or, rules}
+use Rattle.std.proofs.lemmas.List.{map_more}
 use Rattle.table.proofs.Laws.Lists.{get_or_in}
-use Rattle.writer.proofs.TableLaws.{counts_more}
-use borrow.Author.Rules.{rules}
+use Rattle.append.specs.Laws.Putting.{then, equal_text}
 use Rattle.writer.proofs.put_counts.Goals as goal
 
-pub bounds-ks-r : goal.bounds-ks-r
-bounds-ks-r c =
-    let w = c.requires.below _ (get_or_in c.args.routines.now c.loop-i.i (omega arith)).0 in
+pub bounds-ks-from : goal.bounds-ks-from
+bounds-ks-from c =
+    let h = c.requires.below _ (get_or_in c.args.routines.now c.loop-r.r-index (omega arith)).0 in
     search rules
 
-pub loop-i-preserved : goal.loop-i-preserved
-loop-i-preserved c =
-    let l = c.loop-i in (
-      omega arith,
-      omega arith,
-      counts_more _ c.args.routines.now l.i _ (omega arith) c.size-r.ensures.0 l.invariant.2 c.put_byte-next.ensures,
-    )
+pub loop-r-preserved : goal.loop-r-preserved
+loop-r-preserved c =
+    let l = c.loop-r in
+    equal_text (map_more (λ r. get_or c.args.ks.now r 0) c.args.routines.now l.r-index 0 (omega arith))
+    (then l.invariant (rw c.from.ensures at c.put_byte.ensures))

@@ -1,24 +1,16 @@
 -- `put_table` meets its contract: the parts of the table one after the other.
-use native.Mathlib.Omega.{arith}
-use Rattle.writer.proofs.WriteLaws.{can_count, few_bytes, table_written}
-use borrow.Author.Rules.{rules}
+use Rattle.std.proofs.Common.{arith, rules}
+use Rattle.writer.proofs.TableLaws.{can_count}
+use Rattle.writer.proofs.WriteLaws.{few_bytes, table_written}
 use Rattle.writer.proofs.put_table.Goals as goal
 
-pub put_counts-b-requires : goal.put_counts-b-requires
-put_counts-b-requires c =
-    let a = c.args in
-    can_count a.ks.now a.s.now a.starts.now a.places.now a.routines.now a.m c.requires _
-    (omega arith)
+pub put_counts-requires : goal.put_counts-requires
+put_counts-requires c = rw c.met-routines.ensures (can_count c.requires.0 (omega (arith, c.put_byte.ensures.appends.place)))
 
-pub overflow_cast-m-2 : goal.overflow_cast-m-2
-overflow_cast-m-2 c =
-    let a = c.args in
-    let m = few_bytes a.ks.now a.s.now a.starts.now a.places.now a.routines.now a.m
-    c.requires c.requires.can.program c.requires.can.holds in
-    search rules
+pub overflow_cast-o : goal.overflow_cast-o
+overflow_cast-o c = let h = few_bytes c.requires.0 in search rules
 
 pub returns : goal.returns
 returns c =
-    let a = c.args in
-    table_written a.ks.now a.s.now a.starts.now a.places.now a.routines.now a.m c.requires
-    c.put_byte-a.ensures c.put_counts-b.ensures c.put_byte-c.ensures c.put_byte-d.ensures c.put_bodies.ensures
+    table_written c.requires.0 (rw c.met-routines.ensures at c.put_byte.ensures) (rw c.met-routines.ensures at c.put_counts.ensures)
+    (rw c.to_le_bytes-count.ensures at c.put.ensures) c.put_bodies.ensures

@@ -1,11 +1,7 @@
 -- `ring_rows` meets its contract: the mask has the routines passed so far that are in the other and tell of a ring.
-use Prim.Native.Nat.{◌-◌, ◌≤◌}
 use Rattle.analysis.specs.Laws.Judging.{RingRow}
 use Rattle.settle.specs.Laws.Masks.{Gathered}
 use Rattle.analysis.proofs.judging.ring_rows.Given as goal
 
 abbrev pub invariant-loop-r : goal.invariant-loop-r
-invariant-loop-r l = Gathered (RingRow l.model l.mask) l.r l.rings × (l.r ≤ l.n)
-
-abbrev pub decreases-loop-r : goal.decreases-loop-r
-decreases-loop-r l = l.n - l.r
+invariant-loop-r l = Gathered (RingRow l.model l.mask) l.r l.rings

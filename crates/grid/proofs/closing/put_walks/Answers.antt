@@ -4,5 +4,5 @@ use Rattle.grid.proofs.closing.put_walks.Goals as goal
 
 pub returns-clause-grown : goal.returns-clause-grown
 returns-clause-grown c = let a = c.args in
-    walks_grown a.g.now _ a.r c.close_rows-w.result c.apart-a.result c.less-d.result a.l c.requires.2
-    c.close_rows-w.ensures c.apart-a.ensures c.less-d.ensures c.put_plane.ensures.grown
+    walks_grown a.g.now _ a.r.now c.close_rows-walks.result c.apart-apart.result c.less.result a.l c.requires.2
+    c.close_rows-walks.ensures c.apart-apart.ensures c.less.ensures c.put_plane.ensures.grown

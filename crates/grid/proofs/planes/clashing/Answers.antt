@@ -2,13 +2,13 @@
 use mathlib.Core.Path.{sym, ap, ◌∙◌}
 use native.Mathlib.Omega.{arith}
 use Rattle.rules.specs.Number.{number}
-use Rattle.grid.proofs.Laws.Masks.{bits_map, bits_less}
+use Rattle.grid.proofs.Laws.Masks.{bits_map, bits_self, bits_without}
 use Rattle.grid.proofs.Laws.Labels.{others_clash}
 use Rattle.grid.proofs.planes.clashing.Goals as goal
 
-pub returns : goal.returns
-returns c = let a = c.args in
+pub returns-else-combine : goal.returns-else-combine
+returns-else-combine c = let a = c.args in
     bits_map
-    (λ m p. (p.1, others_clash a.l m p.0))
-    (λ m p. (λ e. c.if-combine.false (c.combine.ensures ∙ ap number (rw (sym e) at p.1)), p.0))
-    (bits_less a.c a.l (omega arith))
+    (λ m p. (p.0, others_clash a.l m (λ e. p.1 (sym e))))
+    (λ m p. (p.0, λ e. c.if-combine.false (c.combine.ensures ∙ ap number (rw e at p.1))))
+    (bits_without (omega arith) (omega arith) (bits_self a.c) c.one.ensures)

@@ -5,4 +5,4 @@ use Rattle.grid.proofs.Relations.{Some}
 use Rattle.grid.proofs.rows.product.Given as goal
 
 abbrev pub invariant-loop-j : goal.invariant-loop-j
-invariant-loop-j l = (l.j ≤ 16) × Same (Edge l.next) (Or (Edge l.initial.next) (Some l.j (λ k x y. Edge l.a x k × Edge l.b k y)))
+invariant-loop-j l = (l.j ≤ 16) × Same (Edge l.next) (Or (Edge l.initial.next) (Some l.j (λ k x y. Edge l.a x k × Edge l.fn.b k y)))

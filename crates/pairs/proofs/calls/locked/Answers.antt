@@ -5,4 +5,4 @@ use Rattle.pairs.proofs.calls.locked.Goals as goal
 
 pub returns-clause-gains : goal.returns-clause-gains
 returns-clause-gains c = let a = c.args in
-    mask_gains (held_by a.h) (held_by a.inside) a.t c.requires.0 c.put_cell.ensures.gains
+    mask_gains (held_by a.h) (held_by a.inside) a.t c.requires.2 (rw c.from.ensures at c.put_cell.ensures.gains)

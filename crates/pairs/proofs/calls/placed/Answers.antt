@@ -3,4 +3,4 @@ use Rattle.pairs.proofs.Gaining.{placed_mask}
 use Rattle.pairs.proofs.calls.placed.Goals as goal
 
 pub returns : goal.returns
-returns c = placed_mask c.args.cell c.args.thread c.requires
+returns c = rw (c.from-m.ensures, c.from.ensures) (placed_mask c.args.cell c.args.thread c.requires)

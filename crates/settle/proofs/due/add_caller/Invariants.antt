@@ -2,8 +2,5 @@
 use Rattle.settle.proofs.DueLaws.{Adding}
 use Rattle.settle.proofs.due.add_caller.Given as goal
 
-abbrev pub invariant-loop-left : goal.invariant-loop-left
-invariant-loop-left l = Adding l.initial.callers l.mask l.r l.callers l.left
-
-abbrev pub decreases-loop-left : goal.decreases-loop-left
-decreases-loop-left l = l.left
+abbrev pub invariant-loop-q : goal.invariant-loop-q
+invariant-loop-q l = Adding l.initial.callers l.mask l.r l.callers l.q-iterator.0

@@ -1,7 +1,7 @@
 -- `all` meets its contract: the mask has the routines passed so far.
 use Rattle.settle.proofs.DueLaws.{all_turn}
-use native.Mathlib.Omega.{arith}
+use Rattle.std.proofs.Common.{arith}
 use Rattle.settle.proofs.due.all.Goals as goal
 
 pub loop-r-preserved : goal.loop-r-preserved
-loop-r-preserved c = (all_turn c.loop-r.r c.loop-r.mask (omega arith) c.loop-r.invariant.0, omega arith)
+loop-r-preserved c = all_turn c.loop-r.r c.loop-r.mask (omega arith) c.loop-r.invariant

@@ -1,7 +1,6 @@
 -- `needed` meets its contract: the entries passed are right.
-use Prim.Native.Nat.{◌≤◌}
 use Rattle.update.proofs.FitLaws.{NeededTo}
 use Rattle.update.proofs.fits.needed.Given as goal
 
 abbrev pub invariant-loop-i : goal.invariant-loop-i
-invariant-loop-i l = (l.i ≤ 64) × NeededTo l.t l.i
+invariant-loop-i l = NeededTo l.n-items l.i

@@ -1,6 +1,7 @@
 -- `same_after` meets its contract: both bodies are passed, and what is left is compared.
 use borrow.Author.Rules.{rules}
 use Rattle.update.proofs.ElsewhereLaws.{can_scan, end_within, after_told}
+use Rattle.update.proofs.SameLaws.{answers_same}
 use Rattle.update.proofs.same.same_after.Goals as goal
 
 pub scan-old-requires : goal.scan-old-requires
@@ -13,8 +14,8 @@ scan-new-requires c =
     let a = c.args in
     can_scan c.requires.new a.ks.now a.t.now a.at c.requires.routine c.requires.new_body
 
-pub slice_bounds-same-count : goal.slice_bounds-same-count
-slice_bounds-same-count c =
+pub slice_bounds-eq-count : goal.slice_bounds-eq-count
+slice_bounds-eq-count c =
     let a = c.args in
     let can = c.requires in
     let scanned = c.scan-old.result in
@@ -22,8 +23,8 @@ slice_bounds-same-count c =
     c.scan-old.ensures in
     search rules
 
-pub slice_bounds-same-start : goal.slice_bounds-same-start
-slice_bounds-same-start c =
+pub slice_bounds-eq-start : goal.slice_bounds-eq-start
+slice_bounds-eq-start c =
     let a = c.args in
     let can = c.requires in
     let scanned = c.scan-old.result in
@@ -31,8 +32,8 @@ slice_bounds-same-start c =
     c.scan-old.ensures in
     search rules
 
-pub slice_bounds-same-count-2 : goal.slice_bounds-same-count-2
-slice_bounds-same-count-2 c =
+pub slice_bounds-eq-count-2 : goal.slice_bounds-eq-count-2
+slice_bounds-eq-count-2 c =
     let a = c.args in
     let can = c.requires in
     let scanned = c.scan-new.result in
@@ -40,8 +41,8 @@ slice_bounds-same-count-2 c =
     c.scan-new.ensures in
     search rules
 
-pub slice_bounds-same-start-2 : goal.slice_bounds-same-start-2
-slice_bounds-same-start-2 c =
+pub slice_bounds-eq-start-2 : goal.slice_bounds-eq-start-2
+slice_bounds-eq-start-2 c =
     let a = c.args in
     let can = c.requires in
     let scanned = c.scan-new.result in
@@ -52,5 +53,7 @@ slice_bounds-same-start-2 c =
 pub returns : goal.returns
 returns c =
     let a = c.args in
-    after_told a.ks.now a.s.now a.t.now a.at c.scan-old.result.next c.scan-new.result.next c.scan-old.result.calls
-    c.scan-new.result.calls c.same.result c.scan-old.ensures c.scan-new.ensures c.same.ensures
+    let e = c.scan-old in
+    let f = c.scan-new in
+    after_told a.ks.now a.s.now a.t.now a.at e.result.next f.result.next e.result.calls f.result.calls c.eq.result
+    e.ensures f.ensures (answers_same _ _ c.eq.result c.eq.ensures)

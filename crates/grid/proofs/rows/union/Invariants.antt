@@ -1,7 +1,0 @@
--- `union` meets its contract: the loop's turn i adds row i of b to row i.
-use Rattle.grid.specs.Rows.{Edge, Or}
-use Rattle.grid.proofs.Loops.{Passed, RowIs}
-use Rattle.grid.proofs.rows.union.Given as goal
-
-abbrev pub invariant-loop-i : goal.invariant-loop-i
-invariant-loop-i l = Passed 0 16 (RowIs (Or (Edge l.initial.next) (Edge l.b))) l.initial.next l.next l.i
