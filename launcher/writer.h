@@ -4,7 +4,7 @@
  *
  * Link with the archive that `tools/archive writer` writes, target/staticlib/libwriter.a; libanalysis.a, libupdate.a
  * and librunner.a may be in the same program. The call keeps no state, takes no heap, writes nothing but the canonical
- * table, and is proved to end for every input. It uses less than 8 KiB of stack (7,060 bytes measured): have 12 KiB
+ * table, and is proved to end for every input. It uses less than 8 KiB of stack (6,900 bytes measured): have 12 KiB
  * free. Two calls may run at the same time on different output buffers. What each refusal's number means is in
  * refusals.h. */
 #ifndef VANGPEAR_WRITER_H

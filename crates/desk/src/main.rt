@@ -6,7 +6,7 @@
 mod threads;
 
 use input::answer_input;
-use runner::{Desk, Ending, Report, Stop, run_fresh};
+use runner::{Desk, Ending, Extent, Report, Stop, run_fresh};
 use std::io;
 use steps::limits::MOST_THREADS;
 use table::refusal::Refusal;
@@ -42,15 +42,22 @@ fn write_answer(rt: &impl Print, ran: Result<Stop, Refusal>) -> io::Result<()> {
     }
 }
 
-// Writes how a run of a table came out, and where a thread was started the locks made and the threads.
+// Writes the locks made and the threads of a run in which a thread was started. The table is looked at once more, which a
+// table that was refused, and a run without a thread, are spared.
+fn write_state(rt: &impl Print, table: &[u8], d: &Desk, reached: Extent) -> io::Result<()> {
+    println!(rt; "locks {}", reached.locks)?;
+    let started = reached.threads.min(MOST_THREADS);
+    match Sections::of(table) {
+        Ok(sections) => write_threads(rt, &sections, &d.records[..started]),
+        Err(_) => Ok(()),
+    }
+}
+
+// Writes how a run of a table came out, and where a thread was started its state.
 fn write_desk(rt: &impl Print, table: &[u8], d: &Desk) -> io::Result<()> {
     write_answer(rt, d.ran)?;
-    match (d.ran, Sections::of(table)) {
-        (Ok(stop), Ok(sections)) if stop.extent.threads != 0 => {
-            println!(rt; "locks {}", stop.extent.locks)?;
-            let started = stop.extent.threads.min(MOST_THREADS);
-            write_threads(rt, &sections, &d.records[..started])
-        }
+    match d.ran {
+        Ok(stop) if stop.extent.threads != 0 => write_state(rt, table, d, stop.extent),
         _ => Ok(()),
     }
 }

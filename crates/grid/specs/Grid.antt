@@ -61,12 +61,6 @@ pub record Closure (g r : List (List ℕ)) : Type 0 where
   pub only : (a b : ℕ) (l : Label) → Pair r a b l → Closed (Pair g) a b l
   pub all : (a b : ℕ) (l : Label) → Closed (Pair g) a b l → Pair r a b l
 
--- x is the lowest name with a ring, or 16 where there is none
-pub record LowestRing (g : List (List ℕ)) (x : ℕ) : Type 0 where
-  pub within : x ≤ most_names
-  pub ring : x < most_names → Pair g x x several
-  pub lowest : (y : ℕ) → Pair g y y several → x ≤ y
-
 -- the lowest name with a ring, if there is one
 abbrev pub RingName : List (List ℕ) → Option ℕ → Type 0
 RingName g None = (y : ℕ) → Pair g y y several → ⊥

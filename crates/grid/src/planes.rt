@@ -105,7 +105,7 @@ pub fn clashing(l: usize, c: u16) -> u16
 }
 
 // Plane l: the pairs with label l, each from its second name to its first; some has the planes that are not empty.
-#[derive(Drop)]
+#[derive(Clone, Copy)]
 pub struct Planes {
     pub planes: [Rows; LABELS],
     pub some: u16,

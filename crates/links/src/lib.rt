@@ -12,7 +12,7 @@ pub mod walk;
 
 use table::limits::{MOST_BYTES, MOST_ROUTINES};
 use table::sections::Sections;
-use walk::Walk;
+pub use walk::Walk;
 
 // Links the body at `from`, of a routine with `own` parameters, and gives the offset after it: at a NEW or MIRROR
 // stands its name, at a FORK the offset after its block, at a CHOICE that of its second alternative, at an OTHER that

@@ -17,6 +17,10 @@ last_digit = record {
 pub decimal_printed : (n : ℕ) → n < 2 ^ 64 → decimal n ≡ printed n
 decimal_printed n h = decimal_from_appends digits last_digit (suc n) n h (omega (arith, length-decimal-le_succ n h))
 
+-- and a number below ten is its digit
+pub decimal_one : (n : ℕ) → n < 10 → decimal n ≡ digit n ∷ []
+decimal_one n h = last_digit.one n n h
+
 -- a number below 10 ^ k has at most k digits
 pub few_digits : (k n : ℕ) → 0 < k → n < 10 ^ k → n < 2 ^ 64 → length (decimal n) ≤ k
 few_digits k n some h g = omega (arith, ap length (decimal_printed n g), length-decimal-le k n some h g)

@@ -1,5 +1,5 @@
 -- What the functions that find the order of routines need and leave.
-use Rattle.std.specs.Prelude.{◌≡◌, cond, None, Some, List, ℕ, ◌+◌, ◌^◌, ◌≤◌, ◌<◌, eqb, length, get_or, take}
+use Rattle.std.specs.Prelude.{◌≡◌, cond, None, Some, List, ℕ, ◌+◌, ◌^◌, ◌≤◌, ◌<◌, eqb, length, get_or, take, replicate}
 use Rattle.table.specs.Constants.{most_routines, most_bytes, MIRROR, code}
 use Rattle.table.specs.Program.{Program}
 use Rattle.table.specs.WellFormed.{In, NoDup}
@@ -21,6 +21,15 @@ pub record Listed (o : Order) : Type 0 where
   pub below : (r : ℕ) → In r (list_of o) → r < most_routines
   pub placed : (r : ℕ) → In r (list_of o) → get_or o.places r None ≡ Some (position (list_of o) r)
   pub unplaced : (r : ℕ) → r < most_routines → (In r (list_of o) → ⊥) → get_or o.places r None ≡ None
+
+-- the order with no routine in it
+abbrev pub unmet : Order
+unmet = record {
+  routines = replicate most_routines 0;
+  places = replicate most_routines None;
+  count = 0;
+  bytes = 0;
+}
 
 -- routine r was met
 pub record Met (o v : Order) (r : ℕ) : Type 0 where

@@ -5,7 +5,7 @@
 ghost use Rattle.std.specs.Prelude.{◌≡◌, ◌<◌, ◌≤◌, length};
 ghost use Rattle.table.specs.Constants.{most_routines};
 ghost use Rattle.order.specs.Standing.{HeldAt, end_of};
-ghost use Rattle.order.specs.Ordering.{list_of, Listed, Met, kept, CanMeet, AllMet, Ordered};
+ghost use Rattle.order.specs.Ordering.{list_of, Listed, unmet, Met, kept, CanMeet, AllMet, Ordered};
 
 use table::limits::{CALL, MIRROR, MOST_ROUTINES};
 use table::sections::Sections;
@@ -22,6 +22,18 @@ pub struct Order {
 }
 
 impl Order {
+    // The order with no routine in it.
+    pub fn new() -> Self
+        ensures { result ≡ unmet }
+    {
+        Order {
+            routines: [0; MOST_ROUTINES],
+            places: [None; MOST_ROUTINES],
+            count: 0,
+            bytes: 0,
+        }
+    }
+
     // Puts r at the end of the routines met, where it is not among them.
     fn meet(&mut self, r: u8)
         requires { Listed self.old × (r < most_routines) }
@@ -52,6 +64,26 @@ impl Order {
         }
     }
 
+    // Finds the order of the routines that calls reach, whatever it was before. The list of the routines met is what is
+    // still to read: it grows while bodies are read. An order that is filled and then given back is copied by a call of
+    // memcpy, which an archive would then need from outside.
+    pub fn discover(&mut self, t: &Sections<'_>, starts: &[usize])
+        requires { HeldAt t.now.counts.now t.now.bodies.now starts.now }
+        ensures { Ordered t.now.counts.now t.now.bodies.now starts.now self.new }
+    {
+        self.routines = [0; MOST_ROUTINES];
+        self.places = [None; MOST_ROUTINES];
+        self.count = 0;
+        self.bytes = 0;
+        self.meet(0);
+        let mut i = 0;
+        while i < self.count {
+            let r = usize::from(self.routines[i]);
+            self.meet_all(t, starts[r], end_of(t.bodies, starts, r));
+            i += 1;
+        }
+    }
+
     // The routines met, in order.
     pub fn met(&self) -> &[u8]
         requires { self.now.count ≤ most_routines }
@@ -74,26 +106,4 @@ pub fn end_of(s: &[u8], starts: &[usize], r: usize) -> usize
     ensures { result ≡ end_of s.now starts.now r }
 {
     starts.get(r + 1).copied().unwrap_or(s.len())
-}
-
-// The order of the routines that calls reach. The list of the routines met is what is still to read: it grows while
-// bodies are read.
-pub fn discover(t: &Sections<'_>, starts: &[usize]) -> Order
-    requires { HeldAt t.now.counts.now t.now.bodies.now starts.now }
-    ensures { Ordered t.now.counts.now t.now.bodies.now starts.now result }
-{
-    let mut o = Order {
-        routines: [0; MOST_ROUTINES],
-        places: [None; MOST_ROUTINES],
-        count: 0,
-        bytes: 0,
-    };
-    o.meet(0);
-    let mut i = 0;
-    while i < o.count {
-        let r = usize::from(o.routines[i]);
-        o.meet_all(t, starts[r], end_of(t.bodies, starts, r));
-        i += 1;
-    }
-    o
 }

@@ -9,7 +9,7 @@ ghost use Rattle.writer.specs.Answer.{Writes, WritesAs, Fits};
 ghost use Rattle.writer.specs.Parts.{CanCount, counts_of, Ready, BodiesWritten, TableWritten, WritesAt, WritesHeld};
 
 use append::Text;
-use order::{Order, discover, end_of};
+use order::{Order, end_of};
 use rewrite::put_body;
 use settle::survey::Survey;
 use table::limits::MOST_ROUTINES;
@@ -69,7 +69,8 @@ fn write_at(t: &Sections<'_>, starts: &[usize], out: &mut [u8]) -> Result<usize,
     ensures writes { WritesAt t.now.counts.now t.now.bodies.now starts.now out.old out.new result }
     ensures fits { Fits result }
 {
-    let o = discover(t, starts);
+    let mut o = Order::new();
+    o.discover(t, starts);
     let total = 3 + o.count + o.bytes;
     if out.len() < total {
         return Err(Refusal::ShortOutput);

@@ -1,5 +1,5 @@
 -- A run of a table: the first machine is on the run, the ticks are steady, and where they end the answer is the run's.
-use Rattle.std.specs.Prelude.{◌≡◌, refl, ◌≢◌, false, List, ℕ, ◌<◌, ◌^◌, length, get_or, replicate, Ok, Err}
+use Rattle.std.specs.Prelude.{◌≡◌, refl, ◌≢◌, Bool, true, false, List, ℕ, ◌<◌, ◌≤◌, ◌^◌, length, get_or, replicate, Ok, Err}
 use Rattle.std.proofs.Common.{sym, ◌∙◌, ap, subst, arith, length-set, eq-eqb, ne_eqb}
 use Rattle.std.proofs.Math.Decide.{ℕ_discrete}
 use Rattle.table.specs.Constants.{most_names}
@@ -19,8 +19,9 @@ use Rattle.steps.specs.declared.thread.Thread.{Thread as Record}
 use Rattle.steps.specs.declared.machine.Machine.{Machine}
 use Rattle.steps.specs.Shown.{blank, Shows, ShowsAll}
 use Rattle.steps.specs.declared.machine.Ending.{Ending}
+use Rattle.steps.specs.declared.machine.Stage.{Stage}
 use Rattle.steps.specs.declared.machine.Ending.TheVariants.{Stuck}
-use Rattle.steps.specs.Machines.{is_born, starting_as}
+use Rattle.steps.specs.Machines.{is_born, is_over, starting_as}
 use Rattle.steps.specs.declared.machine.Want.TheVariants.{Free}
 use Rattle.links.specs.Lies.{Section, section, Lies, Bodies}
 use Rattle.links.specs.Holding.{Links}
@@ -51,6 +52,26 @@ ticks_long z ts us m n turns = go us n turns
     go ws j (more vs xs k l before going v w sized) =
         ap length v ∙ length-set vs k.pick (tick_as z (looked vs k) k).thread ∙ go vs k before
 
+-- nothing more is to be done, or something is
+not_over_both : (w : Stage) → is_over w ≡ true → is_over w ≡ false → ⊥
+not_over_both w p q = let z : ◌≡◌ {A = Bool} true false = sym p ∙ q in cc
+
+-- where nothing more is to be done, nothing is
+stays : (z : Section) (ts us : List Record) (m n : Machine) → is_over m.stage ≡ true → Ticks z ts m us n → (us ≡ ts) × (n ≡ m)
+stays z ts us m n e turns = go us n turns
+  where
+    go : (ws : List Record) (j : Machine) → Ticks z ts m ws j → (ws ≡ ts) × (j ≡ m)
+    go ws j ticks.start = (refl, refl)
+    go ws j (more vs xs k l before going v w sized) =
+        absurd (not_over_both k.stage
+        (let s = go vs k before in ap (λ (q : Machine). is_over q.stage) s.1 ∙ e) going)
+
+-- and the ticks can be taken, as there is none
+pub can_rest : (z : Section) (ts : List Record) (m : Machine) → is_over m.stage ≡ true → Steady z ts m
+can_rest z ts m e us n turns going =
+    absurd (not_over_both n.stage
+    (let s = stays z ts us m n e turns in ap (λ (q : Machine). is_over q.stage) s.1 ∙ e) going)
+
 -- how far a run came, by its parts
 same_extent : (a b c : ℕ) (x : Result) → a ≡ x.read → b ≡ length x.state.threads → c ≡ x.state.made
     → ◌≡◌ {A = Extent} (record { read = a; threads = b; locks = c }) (extent_of x)
@@ -77,6 +98,10 @@ module _ (ks s heads links bs : List ℕ) (linked : Links ks s heads links) (P :
       let b = bodies 0 (omega (arith, l, d)) in
       (b.0, subst (λ (v : ℕ). Lies (section ks s heads links bs) false v (body P 0) b.0) e b.1)
 
+  -- there is an item for a tick to look at
+  pub some_byte : 1 ≤ length s
+  some_byte = (item_here (section ks s heads links bs) false 0 (body P 0) first.0 first.1).inside
+
   bounds : length bs < 2 ^ 64 → Bounds (section ks s heads links bs)
   bounds l =
       let a = h.limits.few_bytes in
@@ -84,7 +109,7 @@ module _ (ks s heads links bs : List ℕ) (linked : Links ks s heads links) (P :
       let c = h.limits.few_routines in
       let d = routines P ks s h in
       record {
-        some = (item_here (section ks s heads links bs) false 0 (body P 0) first.0 first.1).inside;
+        some = some_byte;
         bytes = omega (arith, a, b);
         routines = omega (arith, c, d);
         schedule = l;

@@ -1,7 +1,7 @@
 -- `discover` meets its contract: after i bodies the routines met are those of the definition.
 use Rattle.std.proofs.Common.{refl, rules, arith}
 use Rattle.order.proofs.DiscoverLaws.{none_listed, finding_start, start_there, can_meet, finding_on, finding_end}
-use Rattle.order.proofs.discover.Goals as goal
+use Rattle.order.proofs.Order.discover.Goals as goal
 
 pub meet-requires : goal.meet-requires
 meet-requires c = (none_listed _ refl refl refl, omega arith)

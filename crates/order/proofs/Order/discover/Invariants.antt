@@ -2,10 +2,10 @@
 use Rattle.std.proofs.Common.{◌-◌}
 use Rattle.table.specs.Constants.{most_routines}
 use Rattle.order.proofs.DiscoverLaws.{Finding}
-use Rattle.order.proofs.discover.Given as goal
+use Rattle.order.proofs.Order.discover.Given as goal
 
 abbrev pub invariant-loop-i : goal.invariant-loop-i
-invariant-loop-i l = Finding l.t.counts.now l.t.bodies.now l.starts l.o l.i
+invariant-loop-i l = Finding l.t.counts.now l.t.bodies.now l.starts l.self l.i
 
 abbrev pub decreases-loop-i : goal.decreases-loop-i
 decreases-loop-i l = most_routines - l.i
